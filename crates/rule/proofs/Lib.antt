@@ -1,0 +1,14 @@
+pub mod OfferLaws
+pub mod TieLaws
+pub mod OnePassLaws
+pub mod Sound
+pub mod ContractionLaws
+pub mod CountLaws
+pub mod DistanceLaws
+pub mod ParentLaws
+pub mod MarkLaws
+pub mod NetLaws
+pub mod TableLaws
+pub mod RoundsLaws
+pub mod Demand3
+pub mod Cases

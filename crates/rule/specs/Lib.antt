@@ -1,0 +1,3 @@
+pub mod Round
+pub mod Exact
+pub mod Settles
