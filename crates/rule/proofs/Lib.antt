@@ -7,6 +7,7 @@ pub mod CountLaws
 pub mod DistanceLaws
 pub mod ParentLaws
 pub mod MarkLaws
+pub mod HopsLaws
 pub mod NetLaws
 pub mod TableLaws
 pub mod RoundsLaws

@@ -212,13 +212,13 @@ module _ {N : Net} {n m : ℕ} (ok : Sound N n m) {S : ℕ → ℕ} (solved : So
           let f : S i < S (a .from) = child-farther i (a .from) (ok .hearer i a k .0) (sym (p (a .from) c) ∙ w .0) in
           omega arith
 
-  module _ {X : ℕ → ℕ} (rest : (i : ℕ) → X i ≡ newMark N Q X i) where
-    -- from a neighbour's need to this node's
-    pass-on : (i j : ℕ) → S i < ceiling → Q j ≡ i → Needed N S Q j → Needed N S Q i
-    unfolding onward
-    pass-on i j h e (own w) = onWay h j 1 w e
-    pass-on i j h e (onWay c k hops w f) = onWay h k (suc hops) w (ap Q f ∙ e)
+  -- who is needed has a needed parent
+  pub pass-on : (i j : ℕ) → S i < ceiling → Q j ≡ i → Needed N S Q j → Needed N S Q i
+  unfolding onward
+  pass-on i j h e (own w) = onWay h j 1 w e
+  pass-on i j h e (onWay c k hops w f) = onWay h k (suc hops) w (ap Q f ∙ e)
 
+  module _ {X : ℕ → ℕ} (rest : (i : ℕ) → X i ≡ newMark N Q X i) where
     -- a node is a member, or is asked by a farther node that is itself needed
     why-needed : (i : ℕ) → (X i ≡ 0 → ⊥) → ((j : ℕ) → S i < S j → (X j ≡ 0 → ⊥) → Needed N S Q j) → Needed N S Q i
     why-needed i h farther = ⊎-elim (λ w. ⊎-elim (λ o. own o) (λ e. heeds (asked-true Q X i (N .arcs i) e)) (w .1)) (λ z. absurd (h (rest i ∙ z))) (mark-why N Q X i)

@@ -45,9 +45,10 @@ arc-link (l ∷ ls) i a m = go (eqb (l .low) i) refl (eqb (l .high) i) refl m (�
     go false p true q m rest = new low (inr (eqb-true (l .high) i q, refl)) refl rest (List·Memᴰ·cases-cons m)
     go false p false q m rest = let r = rest m in (r .0, List·Memᴰ·tail (r .1), r .2)
 
--- over each link each end hears the other
+-- over each link each end hears the other, at the link's cost
 pub link-arc : (ls : List Link) (i : ℕ) (l : Link) → List·Memᴰ l ls
-    → (j : ℕ) → ((l .low ≡ i) × (l .high ≡ j)) ⊎ ((l .high ≡ i) × (l .low ≡ j)) → (a : Arc) × List·Memᴰ a (arcsOf ls i) × (a .from ≡ j)
+    → (j : ℕ) → ((l .low ≡ i) × (l .high ≡ j)) ⊎ ((l .high ≡ i) × (l .low ≡ j))
+    → (a : Arc) × List·Memᴰ a (arcsOf ls i) × (a .from ≡ j) × (a .cost ≡ l .cost)
 unfolding arcsOf
 link-arc [] i l m j e = absurd (List·Memᴰ·not-nil m)
 link-arc (x ∷ ls) i l m j e = go (eqb (x .low) i) refl (eqb (x .high) i) refl (List·Memᴰ·cases-cons m) (λ k. link-arc ls i l k j e)
@@ -59,10 +60,13 @@ link-arc (x ∷ ls) i l m j e = go (eqb (x .low) i) refl (eqb (x .high) i) refl 
     high = record { from = x .high; cost = x .cost }
 
     Found : List Arc → Type 0
-    Found xs = (a : Arc) × List·Memᴰ a xs × (a .from ≡ j)
+    Found xs = (a : Arc) × List·Memᴰ a xs × (a .from ≡ j) × (a .cost ≡ l .cost)
+
+    same-cost : l ≡ x → x .cost ≡ l .cost
+    same-cost p = ap (λ (y : Link). y .cost) (sym p)
 
     behind : (y : Arc) (xs : List Arc) → Found xs → Found (y ∷ xs)
-    behind y xs f = (f .0, List·Memᴰ·tail (f .1), f .2)
+    behind y xs f = (f .0, List·Memᴰ·tail (f .1), f .2, f .3)
 
     ends : l ≡ x → ((x .low ≡ i) × (x .high ≡ j)) ⊎ ((x .high ≡ i) × (x .low ≡ j))
     ends p = subst (λ (y : Link). ((y .low ≡ i) × (y .high ≡ j)) ⊎ ((y .high ≡ i) × (y .low ≡ j))) p e
@@ -70,9 +74,9 @@ link-arc (x ∷ ls) i l m j e = go (eqb (x .low) i) refl (eqb (x .high) i) refl 
     go : (s : Bool) → eqb (x .low) i ≡ s → (t : Bool) → eqb (x .high) i ≡ t → (l ≡ x) ⊎ List·Memᴰ l ls
         → (List·Memᴰ l ls → Found (arcsOf ls i)) → Found (cond s (high ∷ arcsOf ls i) (cond t (low ∷ arcsOf ls i) (arcsOf ls i)))
     go true p t q (inl w) rest =
-        (high, List·Memᴰ·head refl, ⊎-elim (λ f. f .1) (λ f. f .0 ∙ sym (eqb-true (x .low) i p) ∙ f .1) (ends w))
+        (high, List·Memᴰ·head refl, ⊎-elim (λ f. f .1) (λ f. f .0 ∙ sym (eqb-true (x .low) i p) ∙ f .1) (ends w), same-cost w)
     go false p true q (inl w) rest =
-        (low, List·Memᴰ·head refl, ⊎-elim (λ f. absurd (eqb-false (x .low) i p (f .0))) (λ f. f .1) (ends w))
+        (low, List·Memᴰ·head refl, ⊎-elim (λ f. absurd (eqb-false (x .low) i p (f .0))) (λ f. f .1) (ends w), same-cost w)
     go false p false q (inl w) rest =
         ⊎-elim (λ f. absurd (eqb-false (x .low) i p (f .0))) (λ f. absurd (eqb-false (x .high) i q (f .0))) (ends w)
     go true p t q (inr k) rest = behind high (arcsOf ls i) (rest k)
@@ -107,7 +111,8 @@ module _ {p : Park} (ok : ParkOk p) where
   way-back : (i : ℕ) (l : Link) (a : Arc) → List·Memᴰ l (p .links) → Heard l i a
       → (b : Arc) × List·Memᴰ b (arcsOf (p .links) (a .from)) × (b .from ≡ i)
   way-back i l a k h =
-      link-arc (p .links) (a .from) l k i (⊎-elim (λ e. inr (sym (e .1), e .0)) (λ e. inl (sym (e .1), e .0)) (h .ends))
+      let b = link-arc (p .links) (a .from) l k i (⊎-elim (λ e. inr (sym (e .1), e .0)) (λ e. inl (sym (e .1), e .0)) (h .ends)) in
+      (b .0, b .1, b .2)
 
   pub sound : Sound (netOf p) (p .nodes) (leastCost (p .links))
   unfolding netOf
