@@ -128,8 +128,12 @@ module _ {p : Park} (ok : ParkOk p) where
       table-same t u (p .nodes) (x .size) (y .size)
       (λ i w k. record { dist = same-dists x y i k; parent = same-parents x y i k; mark = same-marks x y i w k })
 
-  exact-quiet : {t : List Cell} → Exact p t → round (netOf p) (p .nodes) t ≡ t
+  pub exact-quiet : {t : List Cell} → Exact p t → round (netOf p) (p .nodes) t ≡ t
   exact-quiet x = subst (λ (u : List Cell). round (netOf p) (p .nodes) u ≡ u) (unique settled-exact x) (settled-quiet [])
+
+  -- an exact table, as functions of every number
+  pub exact-still : {t : List Cell} → Exact p t → Still (netOf p) (at t)
+  exact-still {t} x = still (netOf p) (at t) (λ j. ap (λ (u : List Cell). at u j) (sym (exact-quiet x)) ∙ at-round-all (sound ok) t j)
 
   -- "A round changes nothing exactly when the whole table is exact."
   pub quiet : (t : List Cell) → (round (netOf p) (p .nodes) t ≡ t) ↔ Exact p t
@@ -142,7 +146,7 @@ module _ {p : Park} (ok : ParkOk p) where
   -- Demand 3, from any stored table t.
   module _ {e : List Cell} (x : Exact p e) (t : List Cell) where
     at-rest : Still (netOf p) (at e)
-    at-rest = still (netOf p) (at e) (λ j. ap (λ (u : List Cell). at u j) (sym (exact-quiet x)) ∙ at-round-all (sound ok) e j)
+    at-rest = exact-still x
 
     exact-parents : (i : ℕ) → ExactParent (netOf p) (dists (at e)) i (at e i .parent)
     exact-parents i = still-exact (sound ok) (at e) at-rest i .parent

@@ -15,25 +15,32 @@ use Rattle.rule.proofs.MarkLaws.{child-farther}
 
 module _ {N : Net} {n m : ℕ} (ok : Sound N n m) {S : ℕ → ℕ} (solved : Solves N S) {Q : ℕ → ℕ} (exact : (i : ℕ) → ExactParent N S i (Q i)) where
   -- how many nodes are nearer than x
-  nearer : ℕ → ℕ
+  pub nearer : ℕ → ℕ
   nearer x = count (λ j. ltb (S j) x) 1 n
 
-  -- each hop leaves fewer nodes that are nearer
+  -- a hop to the parent leaves fewer nodes that are nearer
+  pub nearer-falls : (i : ℕ) → 1 ≤ Q i → nearer (S (Q i)) < nearer (S i)
+  unfolding nearer
+  nearer-falls i low =
+      let a = parent-arc ok solved (exact i) low in
+      let w = ok .sender i (a .0) (a .1) in
+      let far : S (Q i) < S i = child-farther ok solved exact (Q i) i low refl in
+      count-more (λ j. ltb (S j) (S (Q i))) (λ j. ltb (S j) (S i)) (λ j t. lt→ltb (S j) (S i) (omega (arith, ltb→lt (S j) (S (Q i)) t)))
+      1 n (Q i) low (omega (arith, subst (λ (x : ℕ). x ≤ n) (a .2) (w .1)))
+      (le-ltb (S (Q i)) (S (Q i)) (le-refl (S (Q i)))) (lt-ltb (S (Q i)) (S i) far)
+
+  -- a node is not nearer than itself
+  pub nearer-few : (i : ℕ) → Within n i → nearer (S i) < n
+  unfolding nearer
+  nearer-few i w = count-less (λ j. ltb (S j) (S i)) n i (w .0) (w .1) (le-ltb (S i) (S i) (le-refl (S i)))
+
   hops-and-nearer : (h k : ℕ) → 1 ≤ onward Q h k → h + nearer (S (onward Q h k)) ≤ nearer (S k)
-  unfolding onward nearer
+  unfolding onward
   hops-and-nearer zero k low = omega arith
   hops-and-nearer (suc h) k low =
       let j : ℕ = onward Q h k in
       let a = parent-arc ok solved (exact j) low in
-      let w = ok .sender j (a .0) (a .1) in
-      let far : S (Q j) < S j = child-farther ok solved exact (Q j) j low refl in
-      let more : nearer (S (Q j)) < nearer (S j) =
-      count-more (λ i. ltb (S i) (S (Q j))) (λ i. ltb (S i) (S j)) (λ i t. lt→ltb (S i) (S j) (omega (arith, ltb→lt (S i) (S (Q j)) t)))
-      1 n (Q j) low (omega (arith, subst (λ (x : ℕ). x ≤ n) (a .2) (w .1)))
-      (le-ltb (S (Q j)) (S (Q j)) (le-refl (S (Q j)))) (lt-ltb (S (Q j)) (S j) far) in
-      omega (arith, hops-and-nearer h k (ok .hearer j (a .0) (a .1) .0))
+      omega (arith, nearer-falls j low, hops-and-nearer h k (ok .hearer j (a .0) (a .1) .0))
 
   pub hops-few : (h k : ℕ) → Within n k → 1 ≤ onward Q h k → h < n
-  unfolding nearer
-  hops-few h k w low =
-      omega (arith, hops-and-nearer h k low, count-less (λ j. ltb (S j) (S k)) n k (w .0) (w .1) (le-ltb (S k) (S k) (le-refl (S k))))
+  hops-few h k w low = omega (arith, hops-and-nearer h k low, nearer-few k w)

@@ -1,0 +1,106 @@
+-- Each test of the code is the next test of the definition.
+use mathlib.Core.Path.{_≡_, sym, _∙_}
+use lib.Dec.{eqb}
+use mathlib.Core.Bool.{true}
+use Rattle.wire.specs.Big.{big}
+use Rattle.park.specs.Reading.{fieldAt, unless, _then_}
+use mathlib.Core.Path.{sym, _∙_}
+use borrow.Author.Tests.{le-leb, lt-leb, eq-eqb, ne-eqb}
+use Rattle.park.specs.Reading.{fieldAt}
+use borrow.Author.Needs.{needs}
+use Rattle.checking.proofs.field.Statement.{statement}
+use Rattle.checking.proofs.field.Tie as tie
+
+add-if1 : tie.Need-add-if1
+add-if1 c = search needs
+
+returns : tie.Need-returns
+unfolding fieldAt unless _then_
+returns c = simp (lt-leb _ _ (c .if1 .taken))
+
+byte-at-requires : tie.Need-byte-at-requires
+byte-at-requires c κs = search needs
+
+returns-2 : tie.Need-returns-2
+unfolding fieldAt unless _then_
+returns-2 c =
+    let d = c .before in
+    simp (le-leb _ _ (d .before .if1 .left), ne-eqb _ _ (λ e. c .if2 .taken (d .byte-at .ensures ∙ e)))
+
+add-big16 : tie.Need-add-big16
+add-big16 c = search needs
+
+big16-requires : tie.Need-big16-requires
+big16-requires c κs = search needs
+
+wide-requires : tie.Need-wide-requires
+wide-requires c κs = search needs
+
+rem-if3 : tie.Need-rem-if3
+rem-if3 c = search needs
+
+returns-3 : tie.Need-returns-3
+unfolding fieldAt unless _then_
+returns-3 c =
+    let d = c .before .before .before in
+    let len = sym (c .before .wide .ensures .0 ∙ c .before .before .big16 .ensures) in
+    simp (le-leb _ _ (d .before .before .if1 .left), eq-eqb _ _ (sym (d .before .byte-at .ensures) ∙ d .if2 .left), len)
+    (simp (ne-eqb _ _ (c .if3 .taken)))
+
+returns-4 : tie.Need-returns-4
+unfolding fieldAt unless _then_
+returns-4 c =
+    let d = c .before .before .before .before in
+    let len = sym (c .before .before .wide .ensures .0 ∙ c .before .before .before .big16 .ensures) in
+    simp (le-leb _ _ (d .before .before .if1 .left), eq-eqb _ _ (sym (d .before .byte-at .ensures) ∙ d .if2 .left), len)
+    (simp (eq-eqb _ _ (c .before .if3 .left), lt-leb _ _ (c .if4 .taken)))
+
+returns-5 : tie.Need-returns-5
+unfolding fieldAt unless _then_
+returns-5 c =
+    let d = c .before .before .before .before .before in
+    let len = sym (c .before .before .before .wide .ensures .0 ∙ c .before .before .before .before .big16 .ensures) in
+    simp (le-leb _ _ (d .before .before .if1 .left), eq-eqb _ _ (sym (d .before .byte-at .ensures) ∙ d .if2 .left), len)
+    (simp (eq-eqb _ _ (c .before .before .if3 .left), le-leb _ _ (c .before .if4 .left), lt-leb _ _ (c .if5 .taken)))
+
+add-if6 : tie.Need-add-if6
+add-if6 c = search needs
+
+add-if6-2 : tie.Need-add-if6-2
+add-if6-2 c = search needs
+
+returns-6 : tie.Need-returns-6
+unfolding fieldAt unless _then_
+returns-6 c =
+    let d = c .before .before .before .before .before .before in
+    let len = sym (c .before .before .before .before .wide .ensures .0 ∙ c .before .before .before .before .before .big16 .ensures) in
+    simp (le-leb _ _ (d .before .before .if1 .left), eq-eqb _ _ (sym (d .before .byte-at .ensures) ∙ d .if2 .left), len)
+    (simp (eq-eqb _ _ (c .before .before .before .if3 .left), le-leb _ _ (c .before .before .if4 .left), le-leb _ _ (c .before .if5 .left), lt-leb _ _ (c .if6 .taken)))
+
+returns-7 : tie.Need-returns-7
+unfolding fieldAt unless _then_
+returns-7 c =
+    let d = c .before .before .before .before .before .before in
+    let len = sym (c .before .before .before .before .wide .ensures .0 ∙ c .before .before .before .before .before .big16 .ensures) in
+    simp (le-leb _ _ (d .before .before .if1 .left), eq-eqb _ _ (sym (d .before .byte-at .ensures) ∙ d .if2 .left), len)
+    (simp (eq-eqb _ _ (c .before .before .before .if3 .left), le-leb _ _ (c .before .before .if4 .left), le-leb _ _ (c .before .if5 .left), le-leb _ _ (c .if6 .left)))
+
+pub field-spec : {M : Type 1} → statement M
+field-spec =
+    tie.close
+    (tie.spec
+    add-if1
+    returns
+    byte-at-requires
+    returns-2
+    add-big16
+    big16-requires
+    wide-requires
+    rem-if3
+    returns-3
+    returns-4
+    returns-5
+    add-if6
+    add-if6-2
+    returns-6
+    returns-7)

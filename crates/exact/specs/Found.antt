@@ -1,0 +1,42 @@
+-- The table that is found without rounds: distances nearest first, then each node's parent, then marks along the ways.
+use Prim.Native.Nat.{ℕ}
+use mathlib.Core.Path.{_≡_}
+use mathlib.Core.Bool.{Bool, cond, _&&_}
+use mathlib.Core.List.{List, map}
+use lib.ListN.{length}
+use lib.Dec.{leb}
+use Rattle.measure.specs.Measure.{ceiling}
+use Rattle.rule.specs.Round.{Link, Park, numbered}
+use Rattle.slices.specs.Slices.{parkOf}
+use Rattle.slices.specs.Reading.{nodeAt}
+use Rattle.round.specs.Table.{even}
+use Rattle.round.specs.Parent.{parentBy}
+use Rattle.exact.specs.Nearest.{distsFrom}
+use Rattle.exact.specs.Walk.{marksFrom}
+
+-- the distances of a park's nodes, in cost units
+unfoldable pub foundDists : Park → List ℕ
+foundDists p = distsFrom (p .nodes) (p .root) (p .links)
+
+-- the parents of n nodes by the distances D, as the rule gives them
+unfoldable pub parentsBy : ℕ → List Link → List ℕ → ℕ → List ℕ
+parentsBy root ls D n = map (λ (i : ℕ). parentBy root ls (nodeAt ceiling D) i) (numbered 1 n)
+
+-- their parents
+unfoldable pub foundParents : Park → List ℕ
+foundParents p = parentsBy (p .root) (p .links) (foundDists p) (p .nodes)
+
+-- and their marks
+unfoldable pub foundMarks : Park → List ℕ
+foundMarks p = marksFrom (p .member) (foundParents p)
+
+-- Whether slices belong together: the parts of the links equally long, and the parts of the table too, of at most 256 nodes.
+abbrev pub ready : ℕ → ℕ → ℕ → ℕ → ℕ → ℕ → Bool
+ready lows highs costs dists parents marks = even lows highs costs && (even dists parents marks && leb dists 256)
+
+-- What the search answers and leaves in the three slices of the table: all found, or nothing written.
+pub record Found (r : Bool) (root : ℕ) (ls hs cs ws ds ps ms ds′ ps′ ms′ : List ℕ) : Type 0 where
+  pub answer : r ≡ ready (length ls) (length hs) (length cs) (length ds) (length ps) (length ms)
+  pub dists : ds′ ≡ cond r (foundDists (parkOf (length ds) root ls hs cs ws)) ds
+  pub parents : ps′ ≡ cond r (foundParents (parkOf (length ds) root ls hs cs ws)) ps
+  pub marks : ms′ ≡ cond r (foundMarks (parkOf (length ds) root ls hs cs ws)) ms

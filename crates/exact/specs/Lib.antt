@@ -1,0 +1,4 @@
+pub mod Flag
+pub mod Nearest
+pub mod Walk
+pub mod Found

@@ -1,0 +1,2 @@
+pub mod MakeLaws
+pub mod FileLaws

@@ -1,0 +1,43 @@
+-- The head and the fields behind it are one store.
+use mathlib.Core.Path.{_≡_, sym, _∙_, ap}
+use Rattle.making.specs.Making.{linksMade, groupMade, stateMade, fileOf}
+use Rattle.making.proofs.MakeLaws.{file-go}
+use borrow.Author.Needs.{needs}
+use Rattle.making.proofs.make.Statement.{statement}
+use Rattle.making.proofs.make.Tie as tie
+
+put-head-requires : tie.Need-put-head-requires
+put-head-requires c κs = search needs
+
+put16-requires : tie.Need-put16-requires
+put16-requires c κs = search needs
+
+put16-requires-2 : tie.Need-put16-requires-2
+put16-requires-2 c κs = search needs
+
+make-links-requires : tie.Need-make-links-requires
+make-links-requires c κs = search needs
+
+same-length : tie.Need-same-length
+same-length c = search needs
+
+returns : tie.Need-returns
+unfolding fileOf
+returns c =
+    let d = c .before .before .before .before .before .before in
+    let e = d .before .before .before .before in
+    let f = e .before .before .before .before in
+    let a = f .before .before .before .before .before .before .before .before .args in
+    let g = file-go (a .out .now) (a .nodes) (a .root) (linksMade (a .links .now) (groupMade (a .group .now) (stateMade (a .nodes) (a .dists .now) (a .parents .now) (a .marks .now)))) in
+    (cc (g .0, c .before .before .make-links .ensures .0, d .put162 .ensures, e .put16 .ensures, f .put-head .ensures), c .before .before .make-links .ensures .1 ∙ g .1)
+
+pub make-spec : {M : Type 1} → statement M
+make-spec =
+    tie.close
+    (tie.spec
+    put-head-requires
+    put16-requires
+    put16-requires-2
+    make-links-requires
+    same-length
+    returns)

@@ -1,0 +1,7 @@
+pub mod VerdictLaws
+pub mod Cases
+pub mod FieldLaws
+pub mod RecordLaws
+pub mod RoundTrip
+pub mod ParkLaws
+pub mod StateLaws

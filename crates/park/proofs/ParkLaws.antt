@@ -1,0 +1,71 @@
+-- A file that is read holds a park of document 01: its root and its links' ends are nodes, its costs are costs, and its members are nodes.
+use Prim.Native.Nat.{ℕ, zero, suc, _+_, _*_, _-_, _/_, _%_, _^_, _≤_, _<_, min}
+use mathlib.Core.Path.{_≡_, refl, sym, ap, subst, _∙_}
+use mathlib.Core.Bool.{Bool, true}
+use mathlib.Core.Logic.{⊎-elim}
+use mathlib.Core.List.{List, [], _∷_, List·Memᴰ, List·Memᴰ·cases-cons, List·Memᴰ·not-nil}
+use native.Mathlib.Nat.{div-add-mod, le-div-iff-mul-le, one-mul, not-le-of-lt, lt-of-le-of-lt, le-trans}
+use native.Mathlib.Decide.{decLt}
+use native.Mathlib.Omega.{arith}
+use lib.ListN.{length, getD}
+use lib.Dec.{T, eqb, eqb→eq}
+use lib.Pow.{pow-pos, pow-mono}
+use Rattle.rule.specs.Round.{Link, Park}
+use Rattle.rule.specs.Exact.{Node}
+use Rattle.rule.specs.Settles.{ParkOk}
+use Rattle.wire.specs.Big.{Bytes}
+use Rattle.slices.specs.Group.{bitSet, memberIn}
+use Rattle.park.specs.ParkFile.{ParkFile, ParkFileOk, parkIn, LinkOk, LinksOk, keyOf}
+use Rattle.park.specs.Reading.{readPark, park}
+use Rattle.park.proofs.RoundTrip.{read-then-encode}
+
+-- a bit that is set is below the number
+bit-below : (x j m : ℕ) → T (bitSet x j) → x < 2 ^ m → j < m
+unfolding bitSet
+bit-below x j m t h = go (decLt j m)
+  where
+    odd : x / 2 ^ j % 2 ≡ 1
+    odd = eqb→eq (x / 2 ^ j % 2) 1 t
+
+    least : 1 * 2 ^ j ≤ x
+    least = le-div-iff-mul-le (pow-pos j) .0 (omega (arith, odd))
+
+    go : Dec (j < m) → j < m
+    go (yes l) = l
+    go (no l) = absurd (not-le-of-lt h (le-trans (pow-mono {i = m} {j = j} (omega arith)) (rw one-mul at least)))
+
+-- "bits above n are 0": a member is a node
+pub member-node : (n : ℕ) (group : List ℕ) → ((i : ℕ) → getD group i 0 < 2 ^ min 8 (n - 8 * i))
+    → (i : ℕ) → T (memberIn 8 group i) → (1 ≤ i) × (i ≤ n)
+unfolding memberIn
+member-node n group bits zero t = absurd t
+member-node n group bits (suc k) t =
+    let b : k % 8 < min 8 (n - 8 * (k / 8)) = bit-below (getD group (k / 8) 0) (k % 8) (min 8 (n - 8 * (k / 8))) t (bits (k / 8)) in
+    (omega arith, omega (arith, div-add-mod k 8))
+
+-- a link of the list is a link of n nodes
+link-of : (n before : ℕ) (ls : List Link) → LinksOk n before ls → (l : Link) → List·Memᴰ l ls → (k : ℕ) × LinkOk n k l
+link-of n before [] ok l m = absurd (List·Memᴰ·not-nil m)
+link-of n before (x ∷ ls) ok l m =
+    ⊎-elim
+    (λ (e : l ≡ x). (before, subst (λ (y : Link). LinkOk n before y) (sym e) (ok .0)))
+    (λ (m′ : List·Memᴰ l ls). link-of n (keyOf x) ls (ok .1) l m′)
+    (List·Memᴰ·cases-cons m)
+
+pub park-ok : (f : ParkFile) → ParkFileOk f → ParkOk (parkIn f)
+unfolding parkIn
+park-ok f ok =
+    let link : (l : Link) → List·Memᴰ l (f .links) → (k : ℕ) × LinkOk (f .nodes) k l = link-of (f .nodes) 0 (f .links) (ok .links) in
+    record {
+      few = ok .few;
+      root = record { least = ok .rootLeast; most = ok .rootMost };
+      low = λ l m. record { least = link l m .1 .least; most = omega (arith, link l m .1 .ascending, link l m .1 .most) };
+      high = λ l m. record { least = omega (arith, link l m .1 .least, link l m .1 .ascending); most = link l m .1 .most };
+      least = λ l m. link l m .1 .cost;
+      largest = λ l m. omega (arith, link l m .1 .largest);
+      members = λ i t. record { least = member-node (f .nodes) (f .group) (ok .bits) i t .0; most = member-node (f .nodes) (f .group) (ok .bits) i t .1 };
+    }
+
+-- a file that is read holds a park
+pub read-park-ok : (s : List ℕ) (f : ParkFile) → Bytes s → readPark s ≡ park f → ParkOk (parkIn f)
+read-park-ok s f b e = park-ok f (read-then-encode s f b e .1)

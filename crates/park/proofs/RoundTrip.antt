@@ -1,0 +1,302 @@
+-- The round trip of a park file: write then read gives the same park, read then write gives the same bytes.
+use Prim.Native.Nat.{ℕ, zero, suc, _+_, _*_, _-_, _/_, _%_, _^_, _≤_, _<_, min}
+use mathlib.Core.Path.{_≡_, refl, sym, ap, ap₂, _∙_}
+use mathlib.Core.Bool.{true}
+use mathlib.Core.List.{List, [], _∷_, _++_}
+use native.Mathlib.Nat.{le-antisymm, mul-div-cancel-left, mul-mod-right, mod-one, div-add-mod, mul-comm}
+use native.Mathlib.Omega.{arith}
+use native.Mathlib.Decide.{decLt}
+use lib.ListN.{length, getD, take, drop, length-append, List·getD-eq-default}
+use lib.Seq.{take-all, getD-drop, getD-take}
+use lib.Dec.{lit<}
+use lib.Pow.{pow-pos}
+use borrow.Author.Tests.{le-leb, leb-true}
+use Rattle.wire.specs.Big.{Bytes, big, bytesOf}
+use Rattle.wire.proofs.BigLaws.{Has, has-all, has-left, has-right, has-at, has-part, has-length, written-read, length-bytesOf, read-written}
+use Rattle.park.specs.declared.refusal.Refusal.{Refusal}
+use Rattle.park.specs.declared.refusal.Refusal.the-variants.{Bounds, Bit, After}
+use Rattle.park.specs.declared.answer.Verdict.{Verdict}
+use Rattle.park.specs.declared.answer.Verdict.the-variants.{Fine, Refused}
+use Rattle.park.specs.declared.answer.Checked.{Checked}
+use Rattle.park.specs.declared.answer.Checked.the-variants.{Park, Refused as checkedRefused}
+use Rattle.park.specs.ParkFile.{ParkFile, field, linkBytes, stateBytes, encode, ParkFileOk}
+use Rattle.park.specs.Reading.{unless, _then_, fieldAt, lengthAt, nodesIn, rootIn, headIn, linksFrom, linkCount, linksIn, groupAt, stateAt, endAt, bitsClear, groupIn, stateIn, endIn, verdictOf, linksRead, cellsRead, fileIn, Read, park, refused, readPark, checkOf}
+use Rattle.park.proofs.VerdictLaws.{then-fine, unless-fine}
+use Rattle.park.proofs.FieldLaws.{part, length-part, part-join, length-field, has-behind, Written, field-written, field-fine, FieldRead, field-read, field-part}
+use Rattle.park.proofs.RecordLaws.{length-linkBytes, length-stateBytes, links-written, cells-written, bits-written, bits-read, links-part, cells-part, cells-ok, links-ok, length-links, length-cells}
+
+pub length-encode : (f : ParkFile) → ParkFileOk f → length (encode f) ≡ 48 + 6 * length (f .links) + 7 * f .nodes
+unfolding encode
+length-encode f ok =
+    simp (length-append, length-field, length-bytesOf, length-linkBytes, length-stateBytes)
+    (omega (arith, ok .groupSize, ok .stateSize))
+
+-- "The largest file is 7,984 bytes."
+pub largest : (f : ParkFile) → ParkFileOk f → length (encode f) ≤ 7984
+largest f ok = omega (arith, length-encode f ok, ok .linkCount, ok .few)
+
+-- what stands where in the file of a park
+module _ (f : ParkFile) (ok : ParkFileOk f) where
+  abbrev s : List ℕ
+  s = encode f
+
+  abbrev first : List ℕ
+  first = bytesOf 2 (f .nodes) ++ bytesOf 2 (f .root)
+
+  abbrev second : List ℕ
+  second = linkBytes (f .links)
+
+  abbrev fourth : List ℕ
+  fourth = stateBytes (f .state)
+
+  all : Has s 0 (field 1 first ++ (field 2 second ++ (field 3 (f .group) ++ field 4 fourth)))
+  unfolding encode
+  all = has-all (encode f)
+
+  from2 : Has s 7 (field 2 second ++ (field 3 (f .group) ++ field 4 fourth))
+  from2 = has-behind 1 first (field 2 second ++ (field 3 (f .group) ++ field 4 fourth)) 7 all (simp (length-append, length-bytesOf))
+
+  abbrev l : ℕ
+  l = 6 * length (f .links)
+
+  from3 : Has s (10 + l) (field 3 (f .group) ++ field 4 fourth)
+  from3 = has-behind 2 second (field 3 (f .group) ++ field 4 fourth) (10 + l) from2 (simp length-linkBytes (omega arith))
+
+  from4 : Has s (45 + l) (field 4 fourth)
+  from4 = has-behind 3 (f .group) (field 4 fourth) (45 + l) from3 (omega (arith, ok .groupSize))
+
+  one : Written s 0 1 first
+  one = field-written 1 first (has-left (field 1 first) _ all) (simp (length-append, length-bytesOf) (lit< tt))
+
+  two : Written s 7 2 second
+  two = field-written 2 second (has-left (field 2 second) _ from2) (omega (arith, length-linkBytes (f .links), ok .linkCount))
+
+  three : Written s (10 + l) 3 (f .group)
+  three = field-written 3 (f .group) (has-left (field 3 (f .group)) _ from3) (omega (arith, ok .groupSize))
+
+  four : Written s (45 + l) 4 fourth
+  four = field-written 4 fourth from4 (omega (arith, length-stateBytes (f .state), ok .stateSize, ok .few))
+
+  nodes-is : nodesIn s ≡ f .nodes
+  nodes-is = written-read 2 (f .nodes) (has-left (bytesOf 2 (f .nodes)) (bytesOf 2 (f .root)) (one .inside)) (omega (arith, ok .few))
+
+  root-is : rootIn s ≡ f .root
+  root-is =
+      let t = has-right (bytesOf 2 (f .nodes)) (bytesOf 2 (f .root)) (one .inside) in
+      let e : 3 + length (bytesOf 2 (f .nodes)) ≡ 5 = simp length-bytesOf in
+      written-read 2 (f .root) (rw e at t) (omega (arith, ok .few, ok .rootMost))
+
+  said-is : lengthAt s 7 ≡ l
+  said-is = two .said ∙ length-linkBytes (f .links)
+
+  count-is : linkCount s ≡ length (f .links)
+  count-is = rw said-is (mul-div-cancel-left (length (f .links)) (lit< tt))
+
+  group-here : Has s (13 + l) (f .group)
+  group-here = let e : 10 + l + 3 ≡ 13 + l = omega arith in rw e at (three .inside)
+
+  state-here : Has s (48 + l) fourth
+  state-here = let e : 45 + l + 3 ≡ 48 + l = omega arith in rw e at (four .inside)
+
+  head-fine : headIn s ≡ Fine
+  unfolding headIn unless _then_
+  head-fine =
+      let e = field-fine 1 4 4 one (mod-one _) (simp (length-append, length-bytesOf) (omega arith)) (simp (length-append, length-bytesOf) (omega arith)) in
+      simp (e, nodes-is, root-is)
+      (simp (le-leb _ _ (ok .some), le-leb _ _ (ok .few), le-leb _ _ (ok .rootLeast), le-leb _ _ (ok .rootMost)))
+
+  links-fine : linksIn s ≡ Fine
+  unfolding linksIn _then_
+  links-fine =
+      let len = length-linkBytes (f .links) in
+      let m : length second % 6 ≡ 0 = rw len (mul-mod-right 6 (length (f .links))) in
+      let e = field-fine 6 0 6144 two m (omega arith) (omega (arith, len, ok .linkCount)) in
+      simp (e, nodes-is, count-is) (links-written (f .nodes) 0 (f .links) (ok .few) (ok .links) (two .inside) .0)
+
+  group-fine : groupIn s ≡ Fine
+  unfolding groupIn unless _then_
+  group-fine =
+      let e = field-fine 1 32 32 three (mod-one _) (omega (arith, ok .groupSize)) (omega (arith, ok .groupSize)) in
+      let p : 10 + l + 3 ≡ 13 + l = omega arith in
+      let b : bitsClear s (13 + l) (f .nodes) 32 ≡ true =
+      bits-written s (13 + l) (f .nodes) 32 (λ i h. rw (has-at group-here i (omega (arith, ok .groupSize))) (ok .bits i)) in
+      simp (nodes-is, said-is) (simp (e, p, b))
+
+  state-fine : stateIn s ≡ Fine
+  unfolding stateIn
+  state-fine =
+      let len = length-stateBytes (f .state) in
+      let e = field-fine 1 (7 * f .nodes) (7 * f .nodes) four (mod-one _) (omega (arith, len, ok .stateSize)) (omega (arith, len, ok .stateSize)) in
+      simp (nodes-is, said-is) e
+
+  end-fine : endIn s ≡ Fine
+  unfolding endIn unless
+  end-fine =
+      let h : length s ≤ 48 + l + 7 * f .nodes = omega (arith, length-encode f ok) in
+      simp (nodes-is, said-is) (simp (le-leb _ _ h))
+
+  verdict-fine : verdictOf s ≡ Fine
+  unfolding verdictOf _then_
+  verdict-fine = simp (head-fine, links-fine, group-fine, state-fine, end-fine)
+
+  file-is : fileIn s ≡ f
+  unfolding fileIn
+  file-is =
+      let p : 10 + l + 3 ≡ 13 + l = omega arith in
+      let q : 45 + l + 3 ≡ 48 + l = omega arith in
+      let ls = links-written (f .nodes) 0 (f .links) (ok .few) (ok .links) (two .inside) .1 in
+      let g : take 32 (drop (13 + l) s) ≡ f .group = rw (← ok .groupSize) (has-part group-here) in
+      let c : cellsRead s (48 + l) (f .nodes) ≡ f .state = ap (cellsRead s (48 + l)) (sym (ok .stateSize)) ∙ cells-written (f .state) (ok .cells) state-here in
+      simp (count-is, ls) (simp (nodes-is, root-is, said-is) (simp (p, q, g, c)))
+
+  -- write then read gives the same park
+  pub encode-read : readPark (encode f) ≡ park f
+  unfolding readPark
+  encode-read = simp (verdict-fine, file-is)
+
+-- what is known of a list of bytes that was not refused
+pub record FileRead (s : List ℕ) : Type 0 where
+  pub head : FieldRead s 0 1 1 4 4
+  pub some : 1 ≤ nodesIn s
+  pub few : nodesIn s ≤ 256
+  pub rootLeast : 1 ≤ rootIn s
+  pub rootMost : rootIn s ≤ nodesIn s
+  pub links : FieldRead s 7 2 6 0 6144
+  pub records : linksFrom s (nodesIn s) 10 0 (linkCount s) ≡ Fine
+  pub group : FieldRead s (groupAt s) 3 1 32 32
+  pub bits : bitsClear s (groupAt s + 3) (nodesIn s) 32 ≡ true
+  pub state : FieldRead s (stateAt s) 4 1 (7 * nodesIn s) (7 * nodesIn s)
+  pub end : length s ≤ endAt s
+
+-- a head that was not refused says at most 256 nodes
+pub head-few : (s : List ℕ) → headIn s ≡ Fine → nodesIn s ≤ 256
+unfolding headIn
+head-few s e = leb-true _ _ (unless-fine _ _ (then-fine _ _ (then-fine _ _ (then-fine _ _ e .1) .1) .0))
+
+pub file-read : (s : List ℕ) → verdictOf s ≡ Fine → FileRead s
+unfolding verdictOf headIn linksIn groupIn stateIn endIn
+file-read s e =
+    let a = then-fine _ _ e in
+    let b = then-fine _ _ (a .1) in
+    let c = then-fine _ _ (b .1) in
+    let d = then-fine _ _ (c .1) in
+    let h = then-fine _ _ (a .0) in
+    let h2 = then-fine _ _ (h .1) in
+    let h3 = then-fine _ _ (h2 .1) in
+    let h4 = then-fine _ _ (h3 .1) in
+    let l = then-fine _ _ (b .0) in
+    let g = then-fine _ _ (c .0) in
+    record {
+      head = field-read s 0 1 1 4 4 (h .0);
+      some = leb-true _ _ (unless-fine _ _ (h2 .0));
+      few = leb-true _ _ (unless-fine _ _ (h3 .0));
+      rootLeast = leb-true _ _ (unless-fine _ _ (h4 .0));
+      rootMost = leb-true _ _ (unless-fine _ _ (h4 .1));
+      links = field-read s 7 2 6 0 6144 (l .0);
+      records = l .1;
+      group = field-read s (groupAt s) 3 1 32 32 (g .0);
+      bits = unless-fine _ _ (g .1);
+      state = field-read s (stateAt s) 4 1 (7 * nodesIn s) (7 * nodesIn s) (d .0);
+      end = leb-true _ _ (unless-fine _ _ (d .1));
+    }
+
+module _ (s : List ℕ) (b : Bytes s) (r : FileRead s) where
+  -- the link field's length is six bytes a link
+  pub six : 6 * linkCount s ≡ lengthAt s 7
+  six = omega (arith, div-add-mod (lengthAt s 7) 6, r .links .multiple)
+
+  pub length-read : length s ≡ endAt s
+  length-read = omega (arith, r .state .room, r .state .least, r .end)
+
+  head-part : field 1 (bytesOf 2 (nodesIn s) ++ bytesOf 2 (rootIn s)) ≡ part s 0 7
+  head-part =
+      let body : bytesOf 2 (nodesIn s) ++ bytesOf 2 (rootIn s) ≡ part s 3 4 =
+      ap₂ (λ (x y : List ℕ). x ++ y) (read-written 2 s 3 b (omega (arith, length-read))) (read-written 2 s 5 b (omega (arith, length-read)))
+      ∙ part-join s 3 5 2 2 refl in
+      field-part (bytesOf 2 (nodesIn s) ++ bytesOf 2 (rootIn s)) 4 b (r .head) (omega (arith, r .head .least, r .head .most)) body
+
+  links-field : field 2 (linkBytes (linksRead s 10 (linkCount s))) ≡ part s 7 (3 + lengthAt s 7)
+  links-field =
+      let body : linkBytes (linksRead s 10 (linkCount s)) ≡ part s 10 (lengthAt s 7) =
+      links-part s b 10 (linkCount s) (omega (arith, length-read, six)) ∙ ap (part s 10) six in
+      field-part (linkBytes (linksRead s 10 (linkCount s))) (lengthAt s 7) b (r .links) refl body
+
+  group-field : field 3 (part s (groupAt s + 3) 32) ≡ part s (groupAt s) 35
+  group-field = field-part (part s (groupAt s + 3) 32) 32 b (r .group) (omega (arith, r .group .least, r .group .most)) refl
+
+  state-field : field 4 (stateBytes (cellsRead s (stateAt s + 3) (nodesIn s))) ≡ part s (stateAt s) (3 + 7 * nodesIn s)
+  state-field =
+      field-part (stateBytes (cellsRead s (stateAt s + 3) (nodesIn s))) (7 * nodesIn s) b (r .state) (omega (arith, r .state .least, r .state .most))
+      (cells-part s b (stateAt s + 3) (nodesIn s) (omega (arith, length-read)))
+
+  read-encode : encode (fileIn s) ≡ s
+  unfolding encode fileIn
+  read-encode =
+      let n : ℕ = nodesIn s in
+      let l : ℕ = lengthAt s 7 in
+      let p : 10 + l + 35 ≡ 45 + l = omega arith in
+      let q : 7 + (3 + l) ≡ 10 + l = omega arith in
+      let w : 7 + (3 + l + (35 + (3 + 7 * n))) ≡ length s = omega (arith, length-read) in
+      rw (head-part, links-field, group-field, state-field)
+      (rw (part-join s (10 + l) (45 + l) 35 (3 + 7 * n) p, part-join s 7 (10 + l) (3 + l) (35 + (3 + 7 * n)) q, part-join s 0 7 7 (3 + l + (35 + (3 + 7 * n))) refl, w)
+      (take-all (length s) s (omega arith)))
+
+  group-bits : (i : ℕ) → getD (part s (groupAt s + 3) 32) i 0 < 2 ^ min 8 (nodesIn s - 8 * i)
+  group-bits i = go (decLt i 32)
+    where
+      go : Dec (i < 32) → getD (part s (groupAt s + 3) 32) i 0 < 2 ^ min 8 (nodesIn s - 8 * i)
+      go (yes h) = rw (getD-take 32 (drop (groupAt s + 3) s) i 0 h, getD-drop (groupAt s + 3) s i 0) (bits-read s (groupAt s + 3) (nodesIn s) 32 (r .bits) i h)
+      go (no h) = rw (List·getD-eq-default (part s (groupAt s + 3) 32) 0 {n = i} (omega (arith, length-part s (groupAt s + 3) 32 (omega (arith, length-read))))) (pow-pos (min 8 (nodesIn s - 8 * i)))
+
+  read-ok : ParkFileOk (fileIn s)
+  unfolding fileIn
+  read-ok =
+      record {
+        some = r .some;
+        few = r .few;
+        rootLeast = r .rootLeast;
+        rootMost = r .rootMost;
+        linkCount = omega (arith, length-links s 10 (linkCount s), six, r .links .most);
+        links = links-ok s b (nodesIn s) 10 0 (linkCount s) (r .records);
+        groupSize = length-part s (groupAt s + 3) 32 (omega (arith, length-read));
+        bits = group-bits;
+        stateSize = length-cells s (stateAt s + 3) (nodesIn s);
+        cells = cells-ok s b (stateAt s + 3) (nodesIn s);
+      }
+
+-- a file that is read as a park was not refused, and the park is what its fields hold
+pub read-fine : (s : List ℕ) (f : ParkFile) → readPark s ≡ park f → (verdictOf s ≡ Fine) × (fileIn s ≡ f)
+unfolding readPark
+read-fine s f e = go (verdictOf s) refl
+  where
+    go : (v : Verdict) → verdictOf s ≡ v → (verdictOf s ≡ Fine) × (fileIn s ≡ f)
+    go Fine p = (p, cc)
+    go (Refused r) p = let z : _≡_ {A = ℕ} 0 1 = cc in absurd (omega arith)
+
+-- read then write gives the same bytes, and what is read is a park that has a file
+pub read-then-encode : (s : List ℕ) (f : ParkFile) → Bytes s → readPark s ≡ park f → (encode f ≡ s) × ParkFileOk f
+read-then-encode s f b e =
+    let p = read-fine s f e in
+    let r = file-read s (p .0) in
+    (ap encode (sym (p .1)) ∙ read-encode s b r, rw (p .1) at (read-ok s b r))
+
+-- a file that Check accepts is read as a park, of the nodes and the links that Check answers
+pub checked-park : (s : List ℕ) (n l : ℕ) → Bytes s → checkOf s ≡ Park n l
+    → (f : ParkFile) × (readPark s ≡ park f) × (f .nodes ≡ n) × (length (f .links) ≡ l)
+unfolding checkOf readPark fileIn
+checked-park s n l b e = go (verdictOf s) refl
+  where
+    go : (v : Verdict) → verdictOf s ≡ v → (f : ParkFile) × (readPark s ≡ park f) × (f .nodes ≡ n) × (length (f .links) ≡ l)
+    go Fine p =
+        let q : _≡_ {A = Checked} (Park (nodesIn s) (linkCount s)) (Park n l) = rw p at e in
+        let m : nodesIn s ≡ n = cc in
+        let k : linkCount s ≡ l = cc in
+        (fileIn s, simp p, m, length-links s 10 (linkCount s) ∙ k)
+    go (Refused r) p =
+        let q : _≡_ {A = Checked} (checkedRefused r) (Park n l) = rw p at e in
+        let z : _≡_ {A = ℕ} 0 1 = cc in
+        absurd (omega arith)
+
+-- the file of a park is not refused
+pub encode-fine : (f : ParkFile) → ParkFileOk f → verdictOf (encode f) ≡ Fine
+encode-fine f ok = read-fine (encode f) f (encode-read f ok) .0

@@ -1,0 +1,24 @@
+-- The laws of steps: where nothing is refused, every test held.
+use Prim.Native.Nat.{ℕ}
+use mathlib.Core.Path.{_≡_, refl, sym, _∙_, ap}
+use mathlib.Core.Bool.{Bool, true, false, _&&_}
+use native.Mathlib.Omega.{arith}
+use Rattle.park.specs.declared.refusal.Refusal.{Refusal}
+use Rattle.park.specs.declared.answer.Verdict.{Verdict}
+use Rattle.park.specs.declared.answer.Verdict.the-variants.{Fine, Refused}
+use Rattle.park.specs.Reading.{unless, _then_}
+
+-- nothing refused: no step refused
+pub then-fine : (v w : Verdict) → _then_ v w ≡ Fine → (v ≡ Fine) × (w ≡ Fine)
+unfolding _then_
+then-fine Fine w e = (refl, e)
+then-fine (Refused r) w e = let z : _≡_ {A = ℕ} 0 1 = cc in absurd (omega arith)
+
+pub unless-fine : (b : Bool) (r : Refusal) → unless b r ≡ Fine → b ≡ true
+unfolding unless
+unless-fine true r e = refl
+unless-fine false r e = let z : _≡_ {A = ℕ} 0 1 = cc in absurd (omega arith)
+
+pub and-true : (a b : Bool) → (a && b) ≡ true → (a ≡ true) × (b ≡ true)
+and-true true b e = (refl, e)
+and-true false b e = let z : _≡_ {A = ℕ} 0 1 = cc in absurd (omega arith)

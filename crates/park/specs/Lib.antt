@@ -1,0 +1,4 @@
+pub mod Refusals
+pub mod ParkFile
+pub mod Reading
+pub mod Cases

@@ -1,0 +1,108 @@
+// One round of all nodes together.
+pub mod lengths;
+mod node;
+pub mod parent;
+
+use lengths::fitting;
+use node::new_cell;
+ghost use mathlib.Core.Path.{_≡_};
+ghost use Rattle.round.specs.Table.{fits, Together, roundOf, Holds, Written};
+
+// Writes the round of the stored table into the three new slices, node by node.
+fn write_round(
+    root: u16,
+    lows: &[u16],
+    highs: &[u16],
+    costs: &[u16],
+    words: &[u64],
+    dists: &[u32],
+    parents: &[u16],
+    marks: &[u8],
+    new_dists: &mut [u32],
+    new_parents: &mut [u16],
+    new_marks: &mut [u8],
+)
+    requires { ⌜ Together (now lows) (now highs) (now costs)
+        (now dists) (now parents) (now marks)
+        (now «new_dists») (now «new_parents») (now «new_marks») ⌝ }
+    ensures { λ _. ⌜ Holds
+        (roundOf root (now (lows .entry)) (now (highs .entry)) (now (costs .entry)) (now (words .entry))
+        (now (dists .entry)) (now (parents .entry)) (now (marks .entry)))
+        (now («new_dists» .exit)) (now («new_parents» .exit)) (now («new_marks» .exit)) ⌝ }
+{
+    let n = dists.len();
+    let mut at = 0;
+    while at < n {
+        let cell = new_cell(
+            at + 1,
+            root,
+            lows,
+            highs,
+            costs,
+            words,
+            dists,
+            parents,
+            marks,
+        );
+        new_dists[at] = cell.dist.0;
+        new_parents[at] = cell.parent;
+        new_marks[at] = cell.mark;
+        at += 1;
+    }
+}
+
+// One round of all nodes together, from the stored table into the three new slices; whether the slices belong together.
+// Where they do not, nothing is written.
+pub fn one_round(
+    root: u16,
+    lows: &[u16],
+    highs: &[u16],
+    costs: &[u16],
+    words: &[u64],
+    dists: &[u32],
+    parents: &[u16],
+    marks: &[u8],
+    new_dists: &mut [u32],
+    new_parents: &mut [u16],
+    new_marks: &mut [u8],
+) -> bool
+    ensures { λ r. ⌜ r ≡ fits (now (lows .entry)) (now (highs .entry)) (now (costs .entry))
+        (now (dists .entry)) (now (parents .entry)) (now (marks .entry))
+        (now («new_dists» .entry)) (now («new_parents» .entry)) (now («new_marks» .entry)) ⌝ }
+    ensures { λ _. ⌜ Written
+        (fits (now (lows .entry)) (now (highs .entry)) (now (costs .entry))
+        (now (dists .entry)) (now (parents .entry)) (now (marks .entry))
+        (now («new_dists» .entry)) (now («new_parents» .entry)) (now («new_marks» .entry)))
+        (roundOf root (now (lows .entry)) (now (highs .entry)) (now (costs .entry)) (now (words .entry))
+        (now (dists .entry)) (now (parents .entry)) (now (marks .entry)))
+        (now («new_dists» .entry)) (now («new_parents» .entry)) (now («new_marks» .entry))
+        (now («new_dists» .exit)) (now («new_parents» .exit)) (now («new_marks» .exit)) ⌝ }
+{
+    if fitting(
+        lows.len(),
+        highs.len(),
+        costs.len(),
+        dists.len(),
+        parents.len(),
+        marks.len(),
+        new_dists.len(),
+        new_parents.len(),
+        new_marks.len(),
+    ) {
+        write_round(
+            root,
+            lows,
+            highs,
+            costs,
+            words,
+            dists,
+            parents,
+            marks,
+            new_dists,
+            new_parents,
+            new_marks,
+        );
+        return true;
+    }
+    false
+}

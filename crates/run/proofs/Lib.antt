@@ -1,0 +1,3 @@
+pub mod SameLaws
+pub mod StepLaws
+pub mod RunLaws

@@ -1,0 +1,4 @@
+pub mod ReadLaws
+pub mod LinkLaws
+pub mod TableLaws
+pub mod SliceLaws

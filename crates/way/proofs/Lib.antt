@@ -1,0 +1,4 @@
+pub mod NeighbourLaws
+pub mod FollowLaws
+pub mod SlicesLaws
+pub mod WayLaws

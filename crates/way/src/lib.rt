@@ -1,0 +1,119 @@
+// The way of a node: where following stored parents leads, over lent slices of plain numbers. Links are two slices, the lower
+// ends and the higher ends, and parents one, node 1's first. Nothing is refused: every number has a way, also one that is no node.
+use measure::Hops;
+use slices::parent_at;
+ghost use mathlib.Core.Path.{_≡_};
+ghost use mathlib.Core.Bool.{cond};
+ghost use lib.Dec.{eqb};
+ghost use Prim.Native.Nat.{_+_, _≤_};
+ghost use Rattle.slices.specs.Reading.{nodeAt};
+ghost use Rattle.way.specs.Way.{neighbour, followed, outcomeOf, wayOf, endsOf, nodesIn};
+
+// Where following parents led.
+pub enum Outcome {
+    // The root was met, after so many hops.
+    Reached(Hops),
+    // The node, by its number, whose parent is not one of its neighbours.
+    Broken(u16),
+    // As many hops as there are nodes have met neither.
+    Looping,
+}
+
+// The node asked about, by its number, and where its way led.
+pub struct Way {
+    pub node: u16,
+    pub outcome: Outcome,
+}
+
+// The node that `node` hears over the link between `low` and `high`; 0 where it is no end of the link.
+pub(crate) fn sender(low: u16, high: u16, node: u16) -> u16
+    ensures { λ r. ⌜ r ≡ cond (eqb low node) high (cond (eqb high node) low 0) ⌝ }
+{
+    if low == node {
+        return high;
+    }
+    if high == node {
+        return low;
+    }
+    0
+}
+
+// Whether `other` is one of the neighbours of `node`, both by number. 0 is no neighbour. Ends without a counterpart are no link.
+pub fn is_neighbour(lows: &[u16], highs: &[u16], node: u16, other: u16) -> bool
+    ensures { λ r. ⌜ r ≡ neighbour (endsOf (now (lows .entry)) (now (highs .entry))) node other ⌝ }
+{
+    if other == 0 {
+        return false;
+    }
+    let mut k = 0;
+    while k < lows.len() {
+        if highs.len() <= k {
+            return false;
+        }
+        if sender(lows[k], highs[k], node) == other {
+            return true;
+        }
+        k += 1;
+    }
+    false
+}
+
+// The stored parent of `node`, both by number; 0 for a number that is no node.
+pub(crate) fn parent(parents: &[u16], node: u16) -> u16
+    ensures { λ r. ⌜ r ≡ nodeAt 0 (now (parents .entry)) node ⌝ }
+{
+    parent_at(parents, node as usize)
+}
+
+// As many hops as there are nodes.
+pub(crate) fn most(parents: &[u16]) -> Hops
+    ensures { λ r. ⌜ r .0 ≡ nodesIn (now (parents .entry)) ⌝ }
+{
+    if parents.len() < 65535 {
+        return Hops(parents.len() as u32);
+    }
+    Hops(65535)
+}
+
+// Where the way goes on from `node`, with the hops still allowed and the hops done, which together never pass 65,535.
+fn follow(
+    root: u16,
+    lows: &[u16],
+    highs: &[u16],
+    parents: &[u16],
+    left: Hops,
+    done: Hops,
+    node: u16,
+) -> Outcome
+    requires { ⌜ left .0 + done .0 ≤ 65535 ⌝ }
+    ensures { λ r. ⌜ r ≡ outcomeOf (followed root (endsOf (now (lows .entry)) (now (highs .entry))) (nodeAt 0 (now (parents .entry))) (left .0) (done .0) node) ⌝ }
+{
+    if node == root {
+        return Outcome::Reached(done);
+    }
+    if left.0 == 0 {
+        return Outcome::Looping;
+    }
+    let next = parent(parents, node);
+    if is_neighbour(lows, highs, node, next) {
+        return follow(
+            root,
+            lows,
+            highs,
+            parents,
+            Hops(left.0 - 1),
+            Hops(done.0 + 1),
+            next,
+        );
+    }
+    Outcome::Broken(node)
+}
+
+// The way of `node`: the hops to the root, the node where the way breaks, or that it loops. The root, the ends and the
+// parents are node numbers.
+pub fn way_of(root: u16, lows: &[u16], highs: &[u16], parents: &[u16], node: u16) -> Way
+    ensures { λ r. ⌜ r ≡ wayOf root (endsOf (now (lows .entry)) (now (highs .entry))) (nodeAt 0 (now (parents .entry))) (nodesIn (now (parents .entry))) node ⌝ }
+{
+    let outcome = follow(root, lows, highs, parents, most(parents), Hops(0), node);
+    Way { node, outcome }
+}

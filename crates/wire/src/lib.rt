@@ -1,0 +1,102 @@
+// Big-endian numbers of 16 and 32 bits in lent bytes. Every call is total: a byte outside the slice is read as 0, and
+// one that would be written there is dropped. Places are in bytes from the slice's start.
+ghost use mathlib.Core.Path.{_≡_};
+ghost use Prim.Native.Nat.{_<_};
+ghost use lib.ListN.{getD, set};
+ghost use lib.Seq.{sets};
+ghost use Rattle.wire.specs.Big.{big, bytesOf};
+
+// A byte as a 16-bit number.
+fn wide16(x: u8) -> u16
+    ensures { λ r. ⌜ (r ≡ x) × (r < 256) ⌝ }
+{
+    x as u16
+}
+
+// A 16-bit number as a 32-bit one.
+fn wide32(x: u16) -> u32
+    ensures { λ r. ⌜ (r ≡ x) × (r < 65536) ⌝ }
+{
+    x as u32
+}
+
+// The byte at a place, in bytes; 0 outside the slice.
+pub fn byte_at(s: &[u8], place: usize) -> u8
+    ensures { λ r. ⌜ r ≡ getD (now (s .entry)) place 0 ⌝ }
+{
+    if place < s.len() {
+        return s[place];
+    }
+    0
+}
+
+// The 16-bit number at a place, in bytes.
+pub fn big16(s: &[u8], place: usize) -> u16
+    ensures { λ r. ⌜ r ≡ big 2 (now (s .entry)) place ⌝ }
+{
+    if s.len() <= place {
+        return 0;
+    }
+    let high = wide16(byte_at(s, place));
+    let low = wide16(byte_at(s, place + 1));
+    high * 256 + low
+}
+
+// The 32-bit number at a place, in bytes.
+pub fn big32(s: &[u8], place: usize) -> u32
+    ensures { λ r. ⌜ r ≡ big 4 (now (s .entry)) place ⌝ }
+{
+    if s.len() <= place {
+        return 0;
+    }
+    let high = wide32(big16(s, place));
+    let low = wide32(big16(s, place + 2));
+    high * 65536 + low
+}
+
+// Puts a byte at a place, in bytes.
+pub fn put_byte(s: &mut [u8], place: usize, x: u8)
+    ensures { λ _. ⌜ now (s .exit) ≡ set (now (s .entry)) place x ⌝ }
+{
+    if place < s.len() {
+        s[place] = x;
+    }
+}
+
+// Puts a 16-bit number at a place, in bytes.
+pub fn put16(s: &mut [u8], place: usize, x: u16)
+    ensures { λ _. ⌜ now (s .exit) ≡ sets (now (s .entry)) place (bytesOf 2 x) ⌝ }
+{
+    if s.len() <= place {
+        return;
+    }
+    put_byte(s, place, (x / 256 % 256) as u8);
+    put_byte(s, place + 1, (x % 256) as u8);
+}
+
+// Puts a 32-bit number at a place, in bytes.
+pub fn put32(s: &mut [u8], place: usize, x: u32)
+    ensures { λ _. ⌜ now (s .exit) ≡ sets (now (s .entry)) place (bytesOf 4 x) ⌝ }
+{
+    if s.len() <= place {
+        return;
+    }
+    put16(s, place, (x / 65536) as u16);
+    put16(s, place + 2, (x % 65536) as u16);
+}
+
+// Puts bytes at a place, in bytes, and behind it.
+pub fn put_bytes(s: &mut [u8], place: usize, bytes: &[u8])
+    ensures { λ _. ⌜ now (s .exit) ≡ sets (now (s .entry)) place (now (bytes .entry)) ⌝ }
+{
+    let mut at = place;
+    let mut i = 0;
+    while i < bytes.len() {
+        if s.len() <= at {
+            return;
+        }
+        put_byte(s, at, bytes[i]);
+        at = at + 1;
+        i = i + 1;
+    }
+}

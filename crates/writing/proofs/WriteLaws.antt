@@ -1,0 +1,69 @@
+-- What Write answers, by the verdict on the file that was made and by the room in the area.
+use Prim.Native.Nat.{ℕ, _+_, _-_, _≤_}
+use mathlib.Core.Path.{_≡_, refl, sym, ap, ap₂, _∙_}
+use mathlib.Core.List.{List, [], _++_, append-nil}
+use native.Mathlib.Omega.{arith}
+use borrow.Author.Tests.{le-leb}
+use lib.ListN.{length, take, drop, drop-of-length-le, length-drop}
+use lib.Seq.{sets, sets-eq, length-sets, drop-drop, take-all, take-append-seam}
+use Rattle.park.specs.declared.refusal.Refusal.{Refusal}
+use Rattle.park.specs.declared.answer.Verdict.{Verdict}
+use Rattle.park.specs.declared.answer.Verdict.the-variants.{Fine, Refused}
+use Rattle.park.specs.ParkFile.{ParkFile, ParkFileOk, encode}
+use Rattle.park.specs.Reading.{unless, _then_, verdictOf}
+use Rattle.park.proofs.RoundTrip.{encode-fine}
+use Rattle.making.proofs.FileLaws.{numbersFile, file-encode}
+use Rattle.writing.specs.declared.Written.the-variants.{Done}
+use Rattle.writing.specs.Area.{roomFor, areaWith}
+use Rattle.writing.specs.Writing.{answerBy, writeVerdict, writeOf}
+
+-- the file stands at the start of what it was put into
+pub made-front : (l file : List ℕ) → length file ≤ length l → take (length file) (sets l 0 file) ≡ file
+made-front l file h =
+    ap (take (length file)) (sets-eq file l 0 (omega arith)) ∙ take-append-seam file (drop (0 + length file) l)
+
+-- a file put at the start of the part of an area that starts at a place
+pub area-put : (old file : List ℕ) (place : ℕ) → place ≤ length old → length file ≤ length old - place
+    → take place old ++ (sets (take (length old - place) (drop place old)) 0 file ++ drop (length old - place) (drop place old)) ≡ areaWith Fine file place old
+unfolding areaWith
+area-put old file place h l =
+    let d : List ℕ = drop place old in
+    let n : length d ≡ length old - place = length-drop place old in
+    let all : take (length old - place) d ≡ d = take-all (length old - place) d (omega arith) in
+    let none : drop (length old - place) d ≡ [] = drop-of-length-le d {i = length old - place} (omega arith) in
+    let zero-length : 0 + length file ≡ length file = omega arith in
+    let put : sets d 0 file ≡ file ++ drop (place + length file) old =
+    sets-eq file d 0 (omega arith) ∙ ap (λ (k : ℕ). file ++ drop k d) zero-length ∙ ap (λ (x : List ℕ). file ++ x) (drop-drop (length file) place old) in
+    rw (all, none, append-nil, put)
+
+-- the file is the first bytes of the array that it was made in
+pub made-is : (l m file : List ℕ) (size : ℕ) → m ≡ sets l 0 file → length file ≤ length m → size ≡ length file → take size m ≡ file
+made-is l m file size e h f =
+    let n : length l ≡ length m = sym (ap length e ∙ length-sets l 0 file) in
+    rw (e, f) (made-front l file (omega arith))
+
+-- a file that is refused leaves the area as it was
+pub write-refused : (file old : List ℕ) (place size : ℕ) (r : Refusal) → verdictOf file ≡ Refused r
+    → (answerBy (Refused r) size ≡ writeOf file (length old) place) × (old ≡ areaWith (writeVerdict file (length old) place) file place old)
+unfolding writeOf writeVerdict areaWith _then_
+write-refused file old place size r e = (simp e, simp e)
+
+-- for any other the room decides
+pub write-room : (file part old new : List ℕ) (place size : ℕ) (v w : Verdict) → part ≡ file → verdictOf file ≡ Fine
+    → v ≡ roomFor (length part) (length old) place → new ≡ areaWith v part place old → size ≡ length file → v ≡ w
+    → (answerBy w size ≡ writeOf file (length old) place) × (new ≡ areaWith (writeVerdict file (length old) place) file place old)
+unfolding writeOf writeVerdict _then_
+write-room file part old new place size v w p e f g h k =
+    let x : roomFor (length file) (length old) place ≡ w = ap (λ (l : List ℕ). roomFor (length l) (length old) place) (sym p) ∙ sym f ∙ k in
+    let y : new ≡ areaWith w file place old = g ∙ ap₂ (λ (u : Verdict) (l : List ℕ). areaWith u l place old) k p in
+    (simp (e, x, h), simp (e, x) y)
+
+-- every park that has a file is written, if there is room for it, and its file stands at the place
+pub write-park : (f : ParkFile) (old : List ℕ) (place : ℕ) → ParkFileOk f → place + length (encode f) ≤ length old
+    → (writeOf (numbersFile f) (length old) place ≡ Done (length (encode f)))
+    × (areaWith (writeVerdict (numbersFile f) (length old) place) (numbersFile f) place old ≡ take place old ++ (encode f ++ drop (place + length (encode f)) old))
+unfolding writeOf writeVerdict roomFor areaWith unless _then_
+write-park f old place ok h =
+    let a : place ≤ length old = omega arith in
+    let b : length (encode f) ≤ length old - place = omega arith in
+    rw (file-encode f ok) (simp (encode-fine f ok, le-leb _ _ a, le-leb _ _ b) ((refl, refl)))
