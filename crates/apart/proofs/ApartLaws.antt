@@ -1,16 +1,15 @@
 -- What is taken apart is what the file holds: the columns of a file that is read are the links, the state and the park of the file.
 use Prim.Native.Nat.{ℕ, zero, suc, _+_, _*_, _-_, _/_, _%_, _^_, _≤_, _<_}
 use mathlib.Core.Path.{_≡_, refl, sym, ap, ap₂, fun-ext, _∙_}
-use mathlib.Core.Bool.{Bool}
-use mathlib.Core.List.{List, [], _∷_, _++_}
-use native.Mathlib.Nat.{add-zero, add-assoc, mul-zero, mul-assoc, add-mul-div-left, div-add-mod}
+use mathlib.Core.List.{List}
+use native.Mathlib.Nat.{add-zero, mul-assoc, add-mul-div-left}
 use native.Mathlib.Decide.{decLt}
 use native.Mathlib.Omega.{arith}
-use lib.ListN.{length, getD, take, drop, List·getD-eq-default}
+use lib.ListN.{length, getD, drop, List·getD-eq-default}
 use lib.Seq.{getD-take, getD-drop}
 use lib.Dec.{eqb}
 use lib.Pow.{pow-pos, pow-add, shr-shr}
-use Rattle.rule.specs.Round.{Link, Cell, Park}
+use Rattle.rule.specs.Round.{Cell, Park}
 use Rattle.wire.specs.Big.{Bytes, big}
 use Rattle.wire.proofs.BigLaws.{big-one}
 use Rattle.slices.specs.Group.{bitSet, memberIn}
@@ -43,7 +42,7 @@ cells-columns s at (suc n) =
     rw (a, b, ih, big-one s (at + 6))
 
 -- the k-th number of a column
-column-at : (read : ℕ → ℕ) (from step n k : ℕ) → k < n → getD (column read from step n) k 0 ≡ read (from + k * step)
+pub column-at : (read : ℕ → ℕ) (from step n k : ℕ) → k < n → getD (column read from step n) k 0 ≡ read (from + k * step)
 unfolding column
 column-at read from step zero k h = absurd (omega arith)
 column-at read from step (suc n) zero h = let e : from + 0 * step ≡ from = omega arith in rw e
@@ -51,7 +50,7 @@ column-at read from step (suc n) (suc k) h =
     let e : from + step + k * step ≡ from + suc k * step = omega (arith, native.Mathlib.Nat.suc-mul k step) in
     column-at read (from + step) step n k (omega arith) ∙ ap read e
 
-length-column : (read : ℕ → ℕ) (from step n : ℕ) → length (column read from step n) ≡ n
+pub length-column : (read : ℕ → ℕ) (from step n : ℕ) → length (column read from step n) ≡ n
 unfolding column
 length-column read from step zero = refl
 length-column read from step (suc n) = ap suc (length-column read (from + step) step n)
@@ -115,7 +114,7 @@ stateColumns s n l =
     cellsOf (column (big 4 s) (48 + 6 * l) 7 n) (column (big 2 s) (52 + 6 * l) 7 n) (column (big 1 s) (54 + 6 * l) 7 n)
 
 module _ (s : List ℕ) (bytes : Bytes s) (r : FileRead s) where
-  park-here : parkColumns s (nodesIn s) (fileIn s .root) (linkCount s) ≡ parkIn (fileIn s)
+  pub park-here : parkColumns s (nodesIn s) (fileIn s .root) (linkCount s) ≡ parkIn (fileIn s)
   unfolding parkOf parkIn fileIn
   park-here =
       let place : 13 + 6 * linkCount s ≡ groupAt s + 3 = omega (arith, six s bytes r) in
@@ -123,7 +122,7 @@ module _ (s : List ℕ) (bytes : Bytes s) (r : FileRead s) where
       rw place (fun-ext (member-words s bytes (groupAt s + 3) (omega (arith, length-read s bytes r)))) in
       λ i. record { nodes = nodesIn s; root = rootIn s; links = links-columns s 10 (linkCount s) i; member = member i }
 
-  state-here : stateColumns s (nodesIn s) (linkCount s) ≡ fileIn s .state
+  pub state-here : stateColumns s (nodesIn s) (linkCount s) ≡ fileIn s .state
   unfolding fileIn
   state-here =
       let l : ℕ = linkCount s in

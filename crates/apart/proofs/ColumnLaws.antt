@@ -1,15 +1,14 @@
 -- Filling a column one number a turn: what stands so far and the column from here on are the whole column.
 use Prim.Native.Nat.{ℕ, zero, suc, _+_, _*_, _-_, _^_, _≤_, _<_}
 use mathlib.Core.Path.{_≡_, refl, sym, ap, ap₂, _∙_}
-use mathlib.Core.Bool.{true, false, cond}
 use mathlib.Core.List.{List, [], _∷_, _++_, append-assoc, append-nil}
 use native.Mathlib.Nat.{pow-suc, pow-le-pow-right, lt-of-lt-of-le}
 use native.Mathlib.Numerals.{add-one}
 use native.Mathlib.Decide.{decLt}
 use native.Mathlib.Omega.{arith}
-use lib.ListN.{length, getD, set, take, drop, replicate, List·getD-eq-default}
+use lib.ListN.{length, length-set, getD, set, take, replicate, List·getD-eq-default}
 use lib.Seq.{take-suc-set, take-all}
-use lib.Dec.{leb, lit<}
+use lib.Dec.{lit<}
 use borrow.Author.Tests.{le-leb, lt-leb}
 use Rattle.wire.specs.Big.{Bytes}
 use Rattle.apart.specs.Columns.{column, little, nextPlace}
@@ -30,7 +29,7 @@ module _ (read : ℕ → ℕ) (size : ℕ) (outside : (i : ℕ) → size ≤ i �
           let far : size ≤ at = omega arith in
           rw (le-leb size at far) (column-out at step n far ∙ sym (column-out (at + step) step n (omega arith)))
 
-  pub turn : (whole o : List ℕ) (at next step i n : ℕ) → i < n → length o ≡ n → next ≡ nextPlace size at step
+  turn : (whole o : List ℕ) (at next step i n : ℕ) → i < n → length o ≡ n → next ≡ nextPlace size at step
       → take i o ++ column read at step (n - i) ≡ whole
       → take (i + 1) (set o i (read at)) ++ column read next step (n - (i + 1)) ≡ whole
   unfolding column
@@ -41,6 +40,13 @@ module _ (read : ℕ → ℕ) (size : ℕ) (outside : (i : ℕ) → size ≤ i �
       ap (λ (k : ℕ). take k (set o i (read at))) (add-one i) ∙ take-suc-set o i (read at) (omega arith) in
       rw (f, column-next at step (n - (i + 1)), front)
       (append-assoc (take i o) (read at ∷ []) (column read (at + step) step (n - (i + 1))) ∙ g′)
+
+  -- a turn of a loop that fills a column: v goes to place i of the slice, which keeps its length
+  pub turned : (whole o : List ℕ) (at next step i n v : ℕ) → i < length o → length o ≡ n → v ≡ read at → next ≡ nextPlace size at step
+      → take i o ++ column read at step (n - i) ≡ whole
+      → (length (set o i v) ≡ n) × (take (i + 1) (set o i v) ++ column read next step (n - (i + 1)) ≡ whole)
+  turned whole o at next step i n v h e f g w =
+      (length-set o i v ∙ e, rw f (turn whole o at next step i n (omega arith) e g w))
 
   pub filled : (whole o : List ℕ) (at step i n : ℕ) → n ≤ i → length o ≡ n → take i o ++ column read at step (n - i) ≡ whole → o ≡ whole
   unfolding column

@@ -1,17 +1,14 @@
 -- One turn of each loop of Check: a link or a byte that refuses is the answer, and one that does not leaves the answer to the rest.
 use Prim.Native.Nat.{ℕ, zero, suc, _+_, _-_, _^_, _≤_, _<_, min}
-use mathlib.Core.Path.{_≡_, refl, sym, ap, _∙_}
-use mathlib.Core.Bool.{Bool, true, false, _&&_}
+use mathlib.Core.Path.{_≡_, refl}
+use mathlib.Core.Bool.{true, false}
 use mathlib.Core.List.{List}
-use native.Mathlib.Nat.{not-suc-le-zero}
 use native.Mathlib.Omega.{arith}
 use lib.ListN.{getD}
-use lib.Dec.{ltb}
 use borrow.Author.Tests.{lt-ltb, le-ltb}
 use Rattle.park.specs.declared.refusal.Refusal.{Refusal}
-use Rattle.park.specs.declared.answer.Verdict.{Verdict}
 use Rattle.park.specs.declared.answer.Verdict.the-variants.{Fine, Refused}
-use Rattle.park.specs.Reading.{unless, _then_, linkAt, linksFrom, keyAt, bitsClear}
+use Rattle.park.specs.Reading.{_then_, linkAt, linksFrom, keyAt, bitsClear}
 
 -- the number before a successor
 less-one : (k : ℕ) → suc k - 1 ≡ k

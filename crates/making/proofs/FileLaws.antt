@@ -1,6 +1,6 @@
 -- The file that a park's numbers make is the park's file, and numbers of a wrong count are refused as 3 where their field starts.
-use Prim.Native.Nat.{ℕ, zero, suc, _+_, _*_, _%_, _≤_, _<_}
-use mathlib.Core.Path.{_≡_, refl, sym, ap, ap₂, _∙_}
+use Prim.Native.Nat.{ℕ, _+_, _*_, _%_, _≤_, _<_}
+use mathlib.Core.Path.{_≡_, refl, ap, _∙_}
 use mathlib.Core.Bool.{Bool, true, false, _&&_}
 use mathlib.Core.List.{List, [], _∷_, _++_, map, append-assoc, append-nil}
 use native.Mathlib.Nat.{mul-mod-right}
@@ -15,11 +15,11 @@ use Rattle.park.specs.declared.refusal.Refusal.the-variants.{Length}
 use Rattle.park.specs.declared.answer.Verdict.the-variants.{Fine, Refused}
 use Rattle.park.specs.ParkFile.{ParkFile, ParkFileOk, field, linkBytes, stateBytes, encode}
 use Rattle.slices.specs.Slices.{cellsOf}
-use Rattle.park.specs.Reading.{_then_, lengthAt, nodesIn, headIn, linksIn, groupIn, groupAt, stateIn, stateAt, verdictOf, readPark, park}
-use Rattle.park.proofs.FieldLaws.{Written, field-written, has-behind, length-refused}
+use Rattle.park.specs.Reading.{_then_, lengthAt, nodesIn, headIn, linksIn, groupIn, stateIn, verdictOf, readPark, park}
+use Rattle.park.proofs.FieldLaws.{field-written, has-behind, length-refused}
 use Rattle.park.proofs.RoundTrip.{encode-read, head-few}
 use Rattle.park.proofs.VerdictLaws.{and-true}
-use Rattle.making.specs.Making.{numbers, flat, made, stateRight, stateMade, groupMade, linksMade, fileOf}
+use Rattle.making.specs.Making.{numbers, flat, stateRight, stateMade, groupMade, linksMade, fileOf}
 use Rattle.making.proofs.MakeLaws.{made-right, made-wrong, length-numbers}
 
 numbers-flat : (ls : List Link) → numbers (flat ls) ≡ linkBytes ls

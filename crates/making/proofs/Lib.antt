@@ -1,2 +1,3 @@
 pub mod MakeLaws
 pub mod FileLaws
+pub mod Cases

@@ -1,13 +1,12 @@
 -- Putting a field behind another: the stores of head, body and rest are one store of them all.
-use Prim.Native.Nat.{ℕ, zero, suc, _+_, _*_, _-_, _%_, _≤_, _<_}
+use Prim.Native.Nat.{ℕ, suc, _+_, _*_, _%_, _≤_, _<_}
 use mathlib.Core.Path.{_≡_, refl, sym, ap, ap₂, _∙_}
-use mathlib.Core.Bool.{Bool, true, false, cond, _&&_}
-use mathlib.Core.List.{List, [], _∷_, _++_, append-assoc, append-nil}
+use mathlib.Core.Bool.{Bool, true, false, _&&_}
+use mathlib.Core.List.{List, [], _∷_, _++_}
 use native.Mathlib.Numerals.{add-one}
-use native.Mathlib.Nat.{add-zero}
 use native.Mathlib.Omega.{arith}
-use lib.ListN.{length, getD, set, take, drop, drop-of-length-le, length-append, length-drop}
-use lib.Seq.{sets, sets-eq, drop-cons, drop-drop, take-all, take-append-seam}
+use lib.ListN.{length, getD, set, drop, drop-of-length-le, length-append}
+use lib.Seq.{sets, drop-cons}
 use lib.Dec.{leb, eqb}
 use borrow.Author.Tests.{le-leb, leb-true, eq-eqb, eqb-true}
 use Rattle.wire.specs.Big.{bytesOf}
@@ -16,6 +15,7 @@ use Rattle.park.specs.ParkFile.{field, stateBytes}
 use Rattle.slices.specs.Slices.{cellsOf}
 use Rattle.park.proofs.FieldLaws.{length-field}
 use Rattle.park.proofs.RecordLaws.{length-stateBytes}
+use Rattle.park.proofs.StateLaws.{length-cellsOf}
 use Rattle.park.proofs.VerdictLaws.{and-true}
 use Rattle.making.specs.Making.{numbers, made, stateRight, stateMade, groupMade, linksMade, fileOf}
 
@@ -65,15 +65,6 @@ made-right tag right body rest e = rw e
 pub made-wrong : (tag : ℕ) (right : Bool) (body rest : List ℕ) → right ≡ false → made tag right body rest ≡ tag ∷ bytesOf 2 65535
 unfolding made bytesOf
 made-wrong tag right body rest e = rw e
-
-pub length-cellsOf : (ds ps ms : List ℕ) (n : ℕ) → length ds ≡ n → length ps ≡ n → length ms ≡ n → length (cellsOf ds ps ms) ≡ n
-unfolding cellsOf
-length-cellsOf [] ps ms n a b c = a
-length-cellsOf (d ∷ ds) [] ms n a b c = absurd (omega arith)
-length-cellsOf (d ∷ ds) (p ∷ ps) [] n a b c = absurd (omega arith)
-length-cellsOf (d ∷ ds) (p ∷ ps) (m ∷ ms) zero a b c = absurd (omega arith)
-length-cellsOf (d ∷ ds) (p ∷ ps) (m ∷ ms) (suc n) a b c =
-    ap suc (length-cellsOf ds ps ms n (omega arith) (omega arith) (omega arith))
 
 -- where a field goes that is not of the right size
 pub made-stop : (l : List ℕ) (at tag : ℕ) (right : Bool) (body rest : List ℕ) → right ≡ false

@@ -1,7 +1,7 @@
 -- "Write a park given by its numbers": the file that the numbers would make.
 -- Links come as 16-bit numbers, three to a link: lower node, higher node, cost (in cost units).
 use Prim.Native.Nat.{ℕ, _%_}
-use mathlib.Core.Bool.{Bool, true, false, _&&_, cond}
+use mathlib.Core.Bool.{Bool, _&&_, cond}
 use mathlib.Core.List.{List, [], _∷_, _++_}
 use lib.ListN.{length}
 use lib.Dec.{leb, eqb}

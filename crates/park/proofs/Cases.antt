@@ -1,10 +1,8 @@
 -- The cases of document 01 that Check answers, by computation: one statement over the whole table.
-use Prim.Native.Nat.{ℕ}
 use mathlib.Core.Path.{_≡_, refl}
-use mathlib.Core.List.{List, map}
+use mathlib.Core.List.{map}
 use lib.ListN.{length}
 use Rattle.wire.specs.Big.{big}
-use Rattle.park.specs.declared.answer.Checked.{Checked}
 use Rattle.park.specs.Reading.{unless, _then_, fieldAt, headIn, linkAt, linksFrom, linksIn, bitsClear, groupIn, stateIn, endIn, verdictOf, checkOf}
 use Rattle.park.specs.Cases.{Row, rows, caseA, caseFile}
 

@@ -5,3 +5,4 @@ pub mod RecordLaws
 pub mod RoundTrip
 pub mod ParkLaws
 pub mod StateLaws
+pub mod CheckedLaws

@@ -1,17 +1,15 @@
 -- A file that is read holds a park of document 01: its root and its links' ends are nodes, its costs are costs, and its members are nodes.
-use Prim.Native.Nat.{ℕ, zero, suc, _+_, _*_, _-_, _/_, _%_, _^_, _≤_, _<_, min}
-use mathlib.Core.Path.{_≡_, refl, sym, ap, subst, _∙_}
-use mathlib.Core.Bool.{Bool, true}
+use Prim.Native.Nat.{ℕ, zero, suc, _*_, _-_, _/_, _%_, _^_, _≤_, _<_, min}
+use mathlib.Core.Path.{_≡_, sym, subst}
 use mathlib.Core.Logic.{⊎-elim}
 use mathlib.Core.List.{List, [], _∷_, List·Memᴰ, List·Memᴰ·cases-cons, List·Memᴰ·not-nil}
-use native.Mathlib.Nat.{div-add-mod, le-div-iff-mul-le, one-mul, not-le-of-lt, lt-of-le-of-lt, le-trans}
+use native.Mathlib.Nat.{div-add-mod, le-div-iff-mul-le, one-mul, not-le-of-lt, le-trans}
 use native.Mathlib.Decide.{decLt}
 use native.Mathlib.Omega.{arith}
-use lib.ListN.{length, getD}
-use lib.Dec.{T, eqb, eqb→eq}
+use lib.ListN.{getD}
+use lib.Dec.{T, eqb→eq}
 use lib.Pow.{pow-pos, pow-mono}
-use Rattle.rule.specs.Round.{Link, Park}
-use Rattle.rule.specs.Exact.{Node}
+use Rattle.rule.specs.Round.{Link}
 use Rattle.rule.specs.Settles.{ParkOk}
 use Rattle.wire.specs.Big.{Bytes}
 use Rattle.slices.specs.Group.{bitSet, memberIn}

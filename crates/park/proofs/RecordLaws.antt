@@ -6,17 +6,15 @@ use mathlib.Core.List.{List, [], _∷_, _++_}
 use native.Mathlib.Nat.{add-zero, add-assoc, mul-zero, sub-zero}
 use native.Mathlib.Numerals.{one-add}
 use native.Mathlib.Omega.{arith}
-use lib.ListN.{length, getD, take, drop, length-append}
+use lib.ListN.{length, getD, take, length-append}
 use lib.Seq.{drop-cons}
-use lib.Dec.{leb, ltb, lit<}
+use lib.Dec.{ltb}
 use borrow.Author.Tests.{le-leb, lt-ltb, leb-true, ltb-true}
 use Rattle.rule.specs.Round.{Link, Cell}
 use Rattle.wire.specs.Big.{Bytes, big, bytesOf}
 use Rattle.wire.proofs.BigLaws.{Has, has-left, has-right, has-at, written-read, read-written, length-bytesOf, big-four, big-lt}
-use Rattle.park.specs.declared.refusal.Refusal.the-variants.{Ends, Order}
-use Rattle.park.specs.declared.answer.Verdict.{Verdict}
 use Rattle.park.specs.declared.answer.Verdict.the-variants.{Fine}
-use Rattle.park.specs.ParkFile.{keyOf, linkBytes, stateBytes, LinkOk, LinksOk, CellOk, CellsOk}
+use Rattle.park.specs.ParkFile.{keyOf, linkBytes, stateBytes, LinkOk, LinksOk, CellsOk}
 use Rattle.park.specs.Reading.{unless, _then_, linkAt, linksFrom, keyAt, bitsClear, linksRead, cellsRead}
 use Rattle.park.proofs.VerdictLaws.{then-fine, unless-fine, and-true}
 use Rattle.park.proofs.FieldLaws.{part, part-join}

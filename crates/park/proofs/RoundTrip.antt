@@ -1,9 +1,9 @@
 -- The round trip of a park file: write then read gives the same park, read then write gives the same bytes.
-use Prim.Native.Nat.{ℕ, zero, suc, _+_, _*_, _-_, _/_, _%_, _^_, _≤_, _<_, min}
+use Prim.Native.Nat.{ℕ, _+_, _*_, _-_, _%_, _^_, _≤_, _<_, min}
 use mathlib.Core.Path.{_≡_, refl, sym, ap, ap₂, _∙_}
 use mathlib.Core.Bool.{true}
-use mathlib.Core.List.{List, [], _∷_, _++_}
-use native.Mathlib.Nat.{le-antisymm, mul-div-cancel-left, mul-mod-right, mod-one, div-add-mod, mul-comm}
+use mathlib.Core.List.{List, _++_}
+use native.Mathlib.Nat.{mul-div-cancel-left, mul-mod-right, mod-one, div-add-mod}
 use native.Mathlib.Omega.{arith}
 use native.Mathlib.Decide.{decLt}
 use lib.ListN.{length, getD, take, drop, length-append, List·getD-eq-default}
@@ -11,16 +11,12 @@ use lib.Seq.{take-all, getD-drop, getD-take}
 use lib.Dec.{lit<}
 use lib.Pow.{pow-pos}
 use borrow.Author.Tests.{le-leb, leb-true}
-use Rattle.wire.specs.Big.{Bytes, big, bytesOf}
-use Rattle.wire.proofs.BigLaws.{Has, has-all, has-left, has-right, has-at, has-part, has-length, written-read, length-bytesOf, read-written}
-use Rattle.park.specs.declared.refusal.Refusal.{Refusal}
-use Rattle.park.specs.declared.refusal.Refusal.the-variants.{Bounds, Bit, After}
+use Rattle.wire.specs.Big.{Bytes, bytesOf}
+use Rattle.wire.proofs.BigLaws.{Has, has-all, has-left, has-right, has-at, has-part, written-read, length-bytesOf, read-written}
 use Rattle.park.specs.declared.answer.Verdict.{Verdict}
 use Rattle.park.specs.declared.answer.Verdict.the-variants.{Fine, Refused}
-use Rattle.park.specs.declared.answer.Checked.{Checked}
-use Rattle.park.specs.declared.answer.Checked.the-variants.{Park, Refused as checkedRefused}
 use Rattle.park.specs.ParkFile.{ParkFile, field, linkBytes, stateBytes, encode, ParkFileOk}
-use Rattle.park.specs.Reading.{unless, _then_, fieldAt, lengthAt, nodesIn, rootIn, headIn, linksFrom, linkCount, linksIn, groupAt, stateAt, endAt, bitsClear, groupIn, stateIn, endIn, verdictOf, linksRead, cellsRead, fileIn, Read, park, refused, readPark, checkOf}
+use Rattle.park.specs.Reading.{unless, _then_, lengthAt, nodesIn, rootIn, headIn, linksFrom, linkCount, linksIn, groupAt, stateAt, endAt, bitsClear, groupIn, stateIn, endIn, verdictOf, linksRead, cellsRead, fileIn, park, readPark}
 use Rattle.park.proofs.VerdictLaws.{then-fine, unless-fine}
 use Rattle.park.proofs.FieldLaws.{part, length-part, part-join, length-field, has-behind, Written, field-written, field-fine, FieldRead, field-read, field-part}
 use Rattle.park.proofs.RecordLaws.{length-linkBytes, length-stateBytes, links-written, cells-written, bits-written, bits-read, links-part, cells-part, cells-ok, links-ok, length-links, length-cells}
@@ -34,6 +30,9 @@ length-encode f ok =
 -- "The largest file is 7,984 bytes."
 pub largest : (f : ParkFile) → ParkFileOk f → length (encode f) ≤ 7984
 largest f ok = omega (arith, length-encode f ok, ok .linkCount, ok .few)
+
+pub largest-reached : (f : ParkFile) → ParkFileOk f → f .nodes ≡ 256 → length (f .links) ≡ 1024 → length (encode f) ≡ 7984
+largest-reached f ok n l = omega (arith, length-encode f ok)
 
 -- what stands where in the file of a park
 module _ (f : ParkFile) (ok : ParkFileOk f) where
@@ -279,23 +278,6 @@ read-then-encode s f b e =
     let p = read-fine s f e in
     let r = file-read s (p .0) in
     (ap encode (sym (p .1)) ∙ read-encode s b r, rw (p .1) at (read-ok s b r))
-
--- a file that Check accepts is read as a park, of the nodes and the links that Check answers
-pub checked-park : (s : List ℕ) (n l : ℕ) → Bytes s → checkOf s ≡ Park n l
-    → (f : ParkFile) × (readPark s ≡ park f) × (f .nodes ≡ n) × (length (f .links) ≡ l)
-unfolding checkOf readPark fileIn
-checked-park s n l b e = go (verdictOf s) refl
-  where
-    go : (v : Verdict) → verdictOf s ≡ v → (f : ParkFile) × (readPark s ≡ park f) × (f .nodes ≡ n) × (length (f .links) ≡ l)
-    go Fine p =
-        let q : _≡_ {A = Checked} (Park (nodesIn s) (linkCount s)) (Park n l) = rw p at e in
-        let m : nodesIn s ≡ n = cc in
-        let k : linkCount s ≡ l = cc in
-        (fileIn s, simp p, m, length-links s 10 (linkCount s) ∙ k)
-    go (Refused r) p =
-        let q : _≡_ {A = Checked} (checkedRefused r) (Park n l) = rw p at e in
-        let z : _≡_ {A = ℕ} 0 1 = cc in
-        absurd (omega arith)
 
 -- the file of a park is not refused
 pub encode-fine : (f : ParkFile) → ParkFileOk f → verdictOf (encode f) ≡ Fine

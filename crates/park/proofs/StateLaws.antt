@@ -1,14 +1,15 @@
 -- A new state in an old file: the bytes of the state are replaced, and the file is that of the park with the new state.
-use Prim.Native.Nat.{ℕ, _+_, _*_, _≤_}
-use mathlib.Core.Path.{_≡_, refl, sym, ap, ap₂, subst, _∙_}
+use Prim.Native.Nat.{ℕ, zero, suc, _+_, _*_, _^_, _≤_, _<_}
+use mathlib.Core.Path.{_≡_, sym, ap, ap₂, _∙_}
 use mathlib.Core.List.{List, [], _∷_, _++_, append-assoc, append-nil}
 use native.Mathlib.Omega.{arith}
-use lib.ListN.{length, take, drop, length-append, drop-of-length-le}
+use lib.ListN.{length, getD, drop, length-append, drop-of-length-le}
 use lib.Seq.{sets, sets-eq, take-at}
 use Rattle.rule.specs.Round.{Cell}
 use Rattle.wire.specs.Big.{Bytes, bytesOf}
 use Rattle.wire.proofs.BigLaws.{length-bytesOf}
 use Rattle.park.specs.ParkFile.{ParkFile, field, linkBytes, stateBytes, encode, withState, ParkFileOk, CellsOk}
+use Rattle.slices.specs.Slices.{cellsOf}
 use Rattle.park.specs.Reading.{readPark, park}
 use Rattle.park.proofs.FieldLaws.{length-field}
 use Rattle.park.proofs.RecordLaws.{length-linkBytes, length-stateBytes}
@@ -76,3 +77,23 @@ pub state-read : (s : List ℕ) (f : ParkFile) (t : List Cell) → Bytes s → r
     → readPark (sets s (48 + 6 * length (f .links)) (stateBytes t)) ≡ park (withState f t)
 state-read s f t b r e cells =
     ap readPark (state-put s f t b r e) ∙ encode-read (withState f t) (with-ok f t (read-then-encode s f b r .1) e cells)
+
+-- a table in three slices of n numbers has n cells
+pub length-cellsOf : (ds ps ms : List ℕ) (n : ℕ) → length ds ≡ n → length ps ≡ n → length ms ≡ n → length (cellsOf ds ps ms) ≡ n
+unfolding cellsOf
+length-cellsOf [] ps ms n a b c = a
+length-cellsOf (d ∷ ds) [] ms n a b c = absurd (omega arith)
+length-cellsOf (d ∷ ds) (p ∷ ps) [] n a b c = absurd (omega arith)
+length-cellsOf (d ∷ ds) (p ∷ ps) (m ∷ ms) zero a b c = absurd (omega arith)
+length-cellsOf (d ∷ ds) (p ∷ ps) (m ∷ ms) (suc n) a b c =
+    ap suc (length-cellsOf ds ps ms n (omega arith) (omega arith) (omega arith))
+
+-- the numbers of a 32-bit, a 16-bit and a byte slice are cells that have a file
+pub cellsOf-ok : (ds ps ms : List ℕ) → ((i : ℕ) → getD ds i 0 < 2 ^ 32) → ((i : ℕ) → getD ps i 0 < 2 ^ 16) → ((i : ℕ) → getD ms i 0 < 2 ^ 8)
+    → CellsOk (cellsOf ds ps ms)
+unfolding cellsOf
+cellsOf-ok [] ps ms a b c = tt
+cellsOf-ok (d ∷ ds) [] ms a b c = tt
+cellsOf-ok (d ∷ ds) (p ∷ ps) [] a b c = tt
+cellsOf-ok (d ∷ ds) (p ∷ ps) (m ∷ ms) a b c =
+    (record { dist = a 0; parent = b 0; mark = c 0 }, cellsOf-ok ds ps ms (λ i. a (suc i)) (λ i. b (suc i)) (λ i. c (suc i)))

@@ -1,6 +1,6 @@
 -- The laws of steps: where nothing is refused, every test held.
 use Prim.Native.Nat.{ℕ}
-use mathlib.Core.Path.{_≡_, refl, sym, _∙_, ap}
+use mathlib.Core.Path.{_≡_, refl}
 use mathlib.Core.Bool.{Bool, true, false, _&&_}
 use native.Mathlib.Omega.{arith}
 use Rattle.park.specs.declared.refusal.Refusal.{Refusal}

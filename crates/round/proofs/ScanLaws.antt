@@ -2,12 +2,12 @@
 use Prim.Native.Nat.{ℕ, _+_, _≤_, _<_}
 use native.Mathlib.Numerals.{add-one}
 use native.Mathlib.Omega.{arith}
-use mathlib.Core.Path.{_≡_, sym, ap, _∙_}
-use mathlib.Core.Bool.{Bool, true, false, cond, not, _||_, and-false, or-true, or-false}
+use mathlib.Core.Path.{_≡_, refl, sym, ap, _∙_}
+use mathlib.Core.Bool.{Bool, true, false, cond, not, _||_, and-false, or-true, or-false, true≢false}
 use mathlib.Core.List.{List}
 use lib.ListN.{length, drop}
 use lib.Dec.{eqb}
-use borrow.Author.Tests.{lt-ltb, le-ltb, eq-eqb, ne-eqb}
+use borrow.Author.Tests.{lt-ltb, le-ltb, eq-eqb, ne-eqb, eqb-false}
 use Rattle.measure.specs.Measure.{ceiling}
 use Rattle.rule.specs.Round.{Arc, Link, before}
 use Rattle.slices.specs.Slices.{linksOf}
@@ -57,6 +57,10 @@ module _ (m q : Bool) where
   pub mark-none : m ≡ false → q ≡ false → _≡_ {A = ℕ} 0 (cond (m || q) 1 0)
   mark-none e h = rw (e, h)
 
+either : (p q : Bool) → (p || q) ≡ false → (p ≡ false) × (q ≡ false)
+either true q e = (e, absurd (true≢false e))
+either false q e = (refl, e)
+
 module _ (D P M : ℕ → ℕ) (i : ℕ) where
   -- one link more
   module _ (b : Best) (l : Link) where
@@ -71,6 +75,12 @@ module _ (D P M : ℕ → ℕ) (i : ℕ) where
     pub passed-none : (l .low ≡ i → ⊥) → (l .high ≡ i → ⊥) → b ≡ passed D P M i b l
     unfolding passed
     passed-none h k = simp (ne-eqb (l .low) i h, ne-eqb (l .high) i k)
+
+  -- a link that does not have the node for an end is passed over
+  pub untouched : (b : Best) (l : Link) → (eqb (l .low) i || eqb (l .high) i) ≡ false → b ≡ passed D P M i b l
+  untouched b l e =
+      let s = either (eqb (l .low) i) (eqb (l .high) i) e in
+      passed-none b l (eqb-false (l .low) i (s .0)) (eqb-false (l .high) i (s .1))
 
   -- the search that has come to place j of the links: one place more, and its end
   module _ (ls hs cs : List ℕ) (j : ℕ) (b all : Best) (so-far : passedAll D P M i b (drop j (linksOf ls hs cs)) ≡ all) where

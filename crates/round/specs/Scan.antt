@@ -9,7 +9,7 @@ use Rattle.rule.specs.Round.{Arc, Link, Cell, through, before}
 use Rattle.round.specs.declared.node.Best.{Best}
 use Rattle.round.specs.declared.node.Stored.{Stored}
 
--- "All nodes act together, on the values from before the round": a node begins with no offer, no arc and unasked
+-- what a node knows before its first arc: "Without neighbours: distance 16,777,215, parent 0", and nobody asks
 abbrev pub unheard : Best
 unheard = record { dist = record { 0 = ceiling }; from = 0; cost = record { 0 = 0 }; asked = false }
 

@@ -18,11 +18,12 @@ abbrev pub fitting : ℕ → ℕ → ℕ → ℕ → ℕ → ℕ → ℕ → ℕ
 fitting lows highs costs n parents marks dists′ parents′ marks′ =
     even lows highs costs && (even n parents marks && (eqb dists′ n && even n parents′ marks′))
 
+-- the same of the slices themselves
 abbrev pub fits : List ℕ → List ℕ → List ℕ → List ℕ → List ℕ → List ℕ → List ℕ → List ℕ → List ℕ → Bool
 fits ls hs cs ds ps ms ds′ ps′ ms′ =
     fitting (length ls) (length hs) (length cs) (length ds) (length ps) (length ms) (length ds′) (length ps′) (length ms′)
 
--- the same as a fact
+-- the same as a fact, which the functions below the public ones require
 pub record Together (ls hs cs ds ps ms ds′ ps′ ms′ : List ℕ) : Type 0 where
   pub links : (length hs ≡ length ls) × (length cs ≡ length ls)
   pub table : (length ps ≡ length ds) × (length ms ≡ length ds)

@@ -1,4 +1,4 @@
-// Whether lent slices belong together, by their lengths alone.
+// Whether lent slices belong together, by their lengths alone. All lengths are in elements.
 ghost use mathlib.Core.Path.{_≡_};
 ghost use Rattle.round.specs.Table.{even, fitting};
 

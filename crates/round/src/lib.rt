@@ -1,4 +1,6 @@
-// One round of all nodes together.
+// One round of all nodes together, over lent slices of plain numbers: the links as lower ends, higher ends and costs, the group as 64-bit
+// words, and a table as distances, parents and marks, node 1 at index 0. The old table is only read and the new one only written, so that
+// every node acts on the values from before the round. Nothing lent is refused for what it holds: only lengths must agree.
 pub mod lengths;
 mod node;
 pub mod parent;
@@ -51,8 +53,9 @@ fn write_round(
     }
 }
 
-// One round of all nodes together, from the stored table into the three new slices; whether the slices belong together.
-// Where they do not, nothing is written.
+// One round of all nodes together, from the stored table into the three new slices. Answers whether the slices belong together; where they
+// do not, nothing is written. Distances and costs are in cost units, `root` and parents are node numbers; the park has as many nodes as there
+// are distances.
 pub fn one_round(
     root: u16,
     lows: &[u16],

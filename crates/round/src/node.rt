@@ -8,6 +8,7 @@ use slices::parent_at;
 ghost use mathlib.Core.Path.{_≡_};
 ghost use mathlib.Core.Bool.{_||_, cond};
 ghost use Prim.Native.Nat.{_<_};
+ghost use lib.Dec.{eqb};
 ghost use lib.ListN.{length, getD};
 ghost use Rattle.measure.specs.Measure.{ceiling};
 ghost use Rattle.rule.specs.Round;
@@ -151,6 +152,16 @@ fn pass_link(
     best
 }
 
+// Whether `node` is an end of a link. Most links are passed over by this test alone.
+fn touches(low: u16, high: u16, node: usize) -> bool
+    ensures { λ r. ⌜ r ≡ (eqb low node || eqb high node) ⌝ }
+{
+    if low as usize == node {
+        return true;
+    }
+    high as usize == node
+}
+
 // What `node` knows after all links.
 pub(crate) fn pass_links(
     node: usize,
@@ -172,8 +183,11 @@ pub(crate) fn pass_links(
     };
     let mut at = 0;
     while at < lows.len() {
-        best = pass_link(best, node, at, lows, highs, costs, dists, parents, marks);
+        let place = at;
         at += 1;
+        if touches(lows[place], highs[place], node) {
+            best = pass_link(best, node, place, lows, highs, costs, dists, parents, marks);
+        }
     }
     best
 }

@@ -113,8 +113,8 @@ module _ (root : ℕ) (ls hs cs ws ds₀ ps₀ ms₀ ds ps ms : List ℕ) (count
         let h : Slices ds ps ms = slices ds ps ms (n .0) (n .1) in
         rw outcome (record { dists = sym (h .dists); parents = sym (h .parents); marks = sym (h .marks) })
 
-    pub ended-spare : (ds′ ps′ ms′ : List ℕ) → Holds (roundOf root ls hs cs ws ds ps ms) ds′ ps′ ms′ → Holds (nextAfter count root ls hs cs ws ds₀ ps₀ ms₀) ds′ ps′ ms′
-    ended-spare ds′ ps′ ms′ h =
+    pub ended-next : (ds′ ps′ ms′ : List ℕ) → Holds (roundOf root ls hs cs ws ds ps ms) ds′ ps′ ms′ → Holds (nextAfter count root ls hs cs ws ds₀ ps₀ ms₀) ds′ ps′ ms′
+    ended-next ds′ ps′ ms′ h =
         rw outcome (subst (λ (n : ℕ). Holds (round (netOf (parkOf n root ls hs cs ws)) n (cellsOf ds ps ms)) ds′ ps′ ms′) (s .nodes) h)
 
   -- a turn that goes on, with the round of the table in its place

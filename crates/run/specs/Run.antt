@@ -13,7 +13,7 @@ use Rattle.run.specs.declared.Ran.{Ran}
 unfoldable pub quiet : Net → ℕ → List Cell → Bool
 quiet N n t = sameTable (round N n t) t
 
--- what a run comes to: the rounds done, whether it is quiet, and the table
+-- what a run comes to: the count of rounds done, whether it is quiet, and the table
 pub record Outcome : Type 0 where
   pub rounds : ℕ
   pub quiet : Bool

@@ -1,5 +1,5 @@
-// A run: rounds over lent slices until a given count is done or the next would change nothing. The table stays where it is lent; the spare
-// slices beside it take each round, and no table is copied by value.
+// A run: rounds over lent slices until a given count is done or the next would change nothing. The table stays where it is lent; the three
+// slices lent beside it take the next round, and no table is copied by value.
 mod copy;
 pub mod same;
 
@@ -27,7 +27,7 @@ pub struct Ran {
     pub quiet: bool,
 }
 
-// Writes the round of the stored table into the spare slices; whether it leaves every value as it is.
+// Writes the round of the stored table into the next slices; whether it leaves every value as it is.
 fn try_round(
     root: u16,
     lows: &[u16],
@@ -79,8 +79,8 @@ fn ends(quiet: bool, left: u32) -> bool
     left == 0
 }
 
-// The run over slices that belong together. The spare slices always hold the round of the table, so that a turn is one
-// round, one comparison and one copy.
+// The run over slices that belong together. A turn is one round, one comparison and one copy; when it ends, the next slices hold the round of
+// the table that stands.
 fn run_fitting(
     count: Rounds,
     root: u16,
@@ -139,8 +139,9 @@ fn run_fitting(
     }
 }
 
-// Rounds from the stored table until `count` are done or the next would change nothing, in the three slices of the table.
-// The spare slices then hold the table after one round more. Slices that do not belong together are left as they are.
+// Rounds from the stored table until `count` rounds are done or the next would change nothing, in the three slices of the table. The next
+// slices then hold the table after one round more. Slices that do not belong together are left as they are. Distances and costs are in cost
+// units, `root` and parents are node numbers.
 pub fn run(
     count: Rounds,
     root: u16,

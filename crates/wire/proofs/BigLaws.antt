@@ -1,12 +1,12 @@
 -- The laws of big-endian numbers, over the width: written then read is the same, read then written is the same bytes.
 use Prim.Native.Nat.{ℕ, zero, suc, _+_, _*_, _/_, _%_, _^_, _≤_, _<_}
-use mathlib.Core.Path.{_≡_, refl, sym, ap, ap₂, _∙_}
+use mathlib.Core.Path.{_≡_, refl, sym, ap, _∙_}
 use mathlib.Core.List.{List, [], _∷_, _++_, append-assoc, append-nil}
-use native.Mathlib.Nat.{add-zero, add-suc, zero-add, pow-suc, div-add-mod', div-lt-iff-lt-mul}
+use native.Mathlib.Nat.{add-zero, zero-add, pow-suc}
 use native.Mathlib.Numerals.{add-one}
 use native.Mathlib.Omega.{arith}
-use lib.ListN.{length, getD, set, take, drop, length-append, List·getD-eq-default, List·getD-append, length-take, length-drop}
-use lib.Seq.{sets, drop-cons, set-out, take-suc, getD-drop, getD-append-add, getD-append-seam, take-at, drop-at}
+use lib.ListN.{length, getD, set, take, drop, length-append, List·getD-eq-default, List·getD-append, length-drop}
+use lib.Seq.{sets, drop-cons, set-out, take-suc, getD-drop, getD-append-add, take-at, drop-at}
 use Rattle.wire.specs.Big.{Bytes, big, bytesOf}
 
 -- a number that starts outside the list is 0

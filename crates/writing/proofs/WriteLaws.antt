@@ -36,11 +36,19 @@ area-put old file place h l =
     sets-eq file d 0 (omega arith) ∙ ap (λ (k : ℕ). file ++ drop k d) zero-length ∙ ap (λ (x : List ℕ). file ++ x) (drop-drop (length file) place old) in
     rw (all, none, append-nil, put)
 
--- the file is the first bytes of the array that it was made in
-pub made-is : (l m file : List ℕ) (size : ℕ) → m ≡ sets l 0 file → length file ≤ length m → size ≡ length file → take size m ≡ file
-made-is l m file size e h f =
-    let n : length l ≡ length m = sym (ap length e ∙ length-sets l 0 file) in
-    rw (e, f) (made-front l file (omega arith))
+-- what is known of the array that a file was made in: its first bytes are the file
+pub record Held (file : List ℕ) (size : ℕ) (array : List ℕ) : Type 0 where
+  pub said : size ≡ length file
+  pub room : size ≤ length array
+  pub count : size ≡ length (take size array)
+  pub front : take size array ≡ file
+
+pub held : (l file : List ℕ) (size : ℕ) (array : List ℕ) → array ≡ sets l 0 file → length array ≡ 7984 → length file ≤ 7984 → size ≡ length file
+    → Held file size array
+held l file size array e n h f =
+    let k : length l ≡ length array = sym (ap length e ∙ length-sets l 0 file) in
+    let front : take size array ≡ file = rw (e, f) (made-front l file (omega arith)) in
+    record { said = f; room = omega arith; count = f ∙ sym (ap length front); front = front }
 
 -- a file that is refused leaves the area as it was
 pub write-refused : (file old : List ℕ) (place size : ℕ) (r : Refusal) → verdictOf file ≡ Refused r

@@ -1,17 +1,14 @@
 -- Each turn puts the next number of the column.
-use Prim.Native.Nat.{ℕ, _-_, _+_, _<_}
+use Prim.Native.Nat.{_-_}
 use native.Mathlib.Nat.{sub-zero}
-use mathlib.Core.List.{List, _++_}
-use lib.ListN.{length, take, set, length-set}
-use Rattle.wire.proofs.BigLaws.{big-one, big-out}
-use mathlib.Core.Path.{_≡_, refl, sym, _∙_, ap}
 use mathlib.Core.List.{_++_}
+use lib.ListN.{length, take}
+use Rattle.wire.proofs.BigLaws.{big-one, big-out}
+use mathlib.Core.Path.{_≡_, refl, sym, _∙_}
 use native.Mathlib.Omega.{arith}
-use lib.ListN.{length, take, length-set}
 use Rattle.wire.specs.Big.{big}
-use Rattle.wire.proofs.BigLaws.{big-out}
 use Rattle.apart.specs.Columns.{column}
-use Rattle.apart.proofs.ColumnLaws.{turn, filled}
+use Rattle.apart.proofs.ColumnLaws.{turned, filled}
 use borrow.Author.Needs.{needs}
 use Rattle.apart.proofs.column8.Statement.{statement}
 use Rattle.apart.proofs.column8.Tie as tie
@@ -43,14 +40,8 @@ loop-less c = search needs
 loop-again : tie.Need-loop-again Inv-loop μ-loop
 loop-again c =
     let l = c .before .before .before .loop in
-    let a = c .before .before .before .before .before .before .args in
-    let s : List ℕ = a .file .now in
-    let n : ℕ = length (a .out .now) in
-    let e : c .before .byte-at .result ≡ big 1 s (l .at) = c .before .byte-at .ensures ∙ sym (big-one s (l .at)) in
-    let i : l .i < n = omega (arith, l .inv .0, c .before .before .loop-test .taken) in
-    let t : take (l .i + 1) (set (l .out) (l .i) (big 1 s (l .at))) ++ column (big 1 s) (c .next-place .result) (a .step) (n - (l .i + 1)) ≡ column (big 1 s) (a .from) (a .step) n =
-    turn (big 1 s) (length s) (λ i h. big-out 1 s i h) _ (l .out) (l .at) (c .next-place .result) (a .step) (l .i) n i (l .inv .0) (c .next-place .ensures) (l .inv .1) in
-    (simp length-set (l .inv .0), rw (← e) at t)
+    let s = c .before .before .before .before .before .before .args .file .now in
+    turned (big 1 s) (length s) (big-out 1 s) _ (l .out) (l .at) _ _ (l .i) _ _ (c .before .before .loop-test .taken) (l .inv .0) (c .before .byte-at .ensures ∙ sym (big-one s (l .at))) (c .next-place .ensures) (l .inv .1)
 
 same-length : tie.Need-same-length Inv-loop μ-loop
 same-length c = c .before .loop .inv .0
@@ -58,9 +49,8 @@ same-length c = c .before .loop .inv .0
 returns : tie.Need-returns Inv-loop μ-loop
 returns c =
     let l = c .before .loop in
-    let a = c .before .before .before .before .args in
-    let s : List ℕ = a .file .now in
-    filled (big 1 s) (length s) (λ i h. big-out 1 s i h) _ (l .out) (l .at) (a .step) (l .i) (length (a .out .now)) (omega (arith, l .inv .0, c .loop-test .left)) (l .inv .0) (l .inv .1)
+    let s = c .before .before .before .before .args .file .now in
+    filled (big 1 s) (length s) (big-out 1 s) _ (l .out) (l .at) _ (l .i) _ (omega (arith, l .inv .0, c .loop-test .left)) (l .inv .0) (l .inv .1)
 
 pub column8-spec : {M : Type 1} → statement M
 column8-spec =

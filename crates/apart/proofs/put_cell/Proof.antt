@@ -1,5 +1,4 @@
 -- Three stores one behind the other are one.
-use mathlib.Core.Path.{_≡_}
 use Rattle.apart.proofs.StateLaws.{cell-put}
 use borrow.Author.Needs.{needs}
 use Rattle.apart.proofs.put_cell.Statement.{statement}

@@ -1,8 +1,7 @@
 -- What is put and what is still to put are the whole state.
 use mathlib.Core.Path.{_≡_, refl, sym, _∙_, ap}
-use Prim.Native.Nat.{ℕ, _-_, _+_, _<_}
-use native.Mathlib.Omega.{arith}
-use lib.ListN.{length, getD, drop}
+use Prim.Native.Nat.{_-_}
+use lib.ListN.{length}
 use lib.Seq.{sets}
 use Rattle.wire.proofs.BigLaws.{sets-out}
 use Rattle.park.specs.ParkFile.{stateBytes}

@@ -1,12 +1,8 @@
 -- The bytes from `left` on are the word so far.
-use Rattle.wire.specs.Big.{Bytes}
-use mathlib.Core.List.{List}
-use Prim.Native.Nat.{_^_, _<_}
 use native.Mathlib.Nat.{add-zero}
-use mathlib.Core.Path.{_≡_, refl, sym, _∙_, ap}
-use Prim.Native.Nat.{ℕ, _-_, _+_, _*_, _≤_}
+use mathlib.Core.Path.{_≡_, refl, sym, _∙_}
+use Prim.Native.Nat.{_-_, _+_, _≤_}
 use native.Mathlib.Omega.{arith}
-use lib.ListN.{length}
 use Rattle.apart.specs.Columns.{little}
 use Rattle.apart.proofs.ColumnLaws.{little-out, little-room, little-turn}
 use borrow.Author.Needs.{needs}

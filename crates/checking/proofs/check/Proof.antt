@@ -1,5 +1,5 @@
 -- The answer is the verdict's, with the two counts of a file that is not refused.
-use mathlib.Core.Path.{_≡_, sym, _∙_}
+use mathlib.Core.Path.{sym, _∙_}
 use Rattle.park.specs.Reading.{checkOf}
 use borrow.Author.Needs.{needs}
 use Rattle.checking.proofs.check.Statement.{statement}

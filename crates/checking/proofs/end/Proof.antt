@@ -1,5 +1,5 @@
 -- The one test of the code is the definition's.
-use mathlib.Core.Path.{_≡_, sym, _∙_}
+use mathlib.Core.Path.{sym, _∙_}
 use borrow.Author.Tests.{le-leb, lt-leb}
 use Rattle.park.specs.Reading.{endIn, unless}
 use borrow.Author.Needs.{needs}

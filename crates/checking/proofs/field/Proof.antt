@@ -1,15 +1,33 @@
 -- Each test of the code is the next test of the definition.
+use Prim.Native.Nat.{ℕ, _+_, _%_}
 use mathlib.Core.Path.{_≡_, sym, _∙_}
-use lib.Dec.{eqb}
-use mathlib.Core.Bool.{true}
-use Rattle.wire.specs.Big.{big}
+use mathlib.Core.List.{List}
+use lib.ListN.{length}
+use lib.Dec.{leb, eqb}
+use Rattle.park.specs.declared.refusal.Refusal.the-variants.{Short, Length}
+use Rattle.park.specs.declared.answer.Verdict.{Verdict}
 use Rattle.park.specs.Reading.{fieldAt, unless, _then_}
-use mathlib.Core.Path.{sym, _∙_}
 use borrow.Author.Tests.{le-leb, lt-leb, eq-eqb, ne-eqb}
-use Rattle.park.specs.Reading.{fieldAt}
 use borrow.Author.Needs.{needs}
 use Rattle.checking.proofs.field.Statement.{statement}
 use Rattle.checking.proofs.field.Tie as tie
+
+-- the tests of the length, once it is read
+abbrev tests : List ℕ → ℕ → ℕ → ℕ → ℕ → ℕ → Verdict
+tests s at step low high size =
+    unless (eqb (size % step) 0) (Length at)
+    then unless (leb low size) (Length at)
+    then unless (leb size high) (Length at)
+    then unless (leb (at + 3 + size) (length s)) (Short at)
+
+-- a complete head with the tag that is due leaves those tests
+sized : (c : tie.After-wide)
+    → let a = c .before .before .before .before .before .before .args in
+    fieldAt (a .file .now) (a .at) (a .tag) (a .step) (a .low) (a .high) ≡ tests (a .file .now) (a .at) (a .step) (a .low) (a .high) (c .wide .result)
+unfolding fieldAt unless _then_
+sized c =
+    let d = c .before .before in
+    simp (le-leb _ _ (d .before .before .if1 .left), eq-eqb _ _ (sym (d .before .byte-at .ensures) ∙ d .if2 .left), sym (c .wide .ensures .0 ∙ c .before .big16 .ensures))
 
 add-if1 : tie.Need-add-if1
 add-if1 c = search needs
@@ -40,27 +58,17 @@ rem-if3 : tie.Need-rem-if3
 rem-if3 c = search needs
 
 returns-3 : tie.Need-returns-3
-unfolding fieldAt unless _then_
-returns-3 c =
-    let d = c .before .before .before in
-    let len = sym (c .before .wide .ensures .0 ∙ c .before .before .big16 .ensures) in
-    simp (le-leb _ _ (d .before .before .if1 .left), eq-eqb _ _ (sym (d .before .byte-at .ensures) ∙ d .if2 .left), len)
-    (simp (ne-eqb _ _ (c .if3 .taken)))
+unfolding unless _then_
+returns-3 c = rw (sized (c .before)) (simp (ne-eqb _ _ (c .if3 .taken)))
 
 returns-4 : tie.Need-returns-4
-unfolding fieldAt unless _then_
-returns-4 c =
-    let d = c .before .before .before .before in
-    let len = sym (c .before .before .wide .ensures .0 ∙ c .before .before .before .big16 .ensures) in
-    simp (le-leb _ _ (d .before .before .if1 .left), eq-eqb _ _ (sym (d .before .byte-at .ensures) ∙ d .if2 .left), len)
-    (simp (eq-eqb _ _ (c .before .if3 .left), lt-leb _ _ (c .if4 .taken)))
+unfolding unless _then_
+returns-4 c = rw (sized (c .before .before)) (simp (eq-eqb _ _ (c .before .if3 .left), lt-leb _ _ (c .if4 .taken)))
 
 returns-5 : tie.Need-returns-5
-unfolding fieldAt unless _then_
+unfolding unless _then_
 returns-5 c =
-    let d = c .before .before .before .before .before in
-    let len = sym (c .before .before .before .wide .ensures .0 ∙ c .before .before .before .before .big16 .ensures) in
-    simp (le-leb _ _ (d .before .before .if1 .left), eq-eqb _ _ (sym (d .before .byte-at .ensures) ∙ d .if2 .left), len)
+    rw (sized (c .before .before .before))
     (simp (eq-eqb _ _ (c .before .before .if3 .left), le-leb _ _ (c .before .if4 .left), lt-leb _ _ (c .if5 .taken)))
 
 add-if6 : tie.Need-add-if6
@@ -70,19 +78,15 @@ add-if6-2 : tie.Need-add-if6-2
 add-if6-2 c = search needs
 
 returns-6 : tie.Need-returns-6
-unfolding fieldAt unless _then_
+unfolding unless _then_
 returns-6 c =
-    let d = c .before .before .before .before .before .before in
-    let len = sym (c .before .before .before .before .wide .ensures .0 ∙ c .before .before .before .before .before .big16 .ensures) in
-    simp (le-leb _ _ (d .before .before .if1 .left), eq-eqb _ _ (sym (d .before .byte-at .ensures) ∙ d .if2 .left), len)
+    rw (sized (c .before .before .before .before))
     (simp (eq-eqb _ _ (c .before .before .before .if3 .left), le-leb _ _ (c .before .before .if4 .left), le-leb _ _ (c .before .if5 .left), lt-leb _ _ (c .if6 .taken)))
 
 returns-7 : tie.Need-returns-7
-unfolding fieldAt unless _then_
+unfolding unless _then_
 returns-7 c =
-    let d = c .before .before .before .before .before .before in
-    let len = sym (c .before .before .before .before .wide .ensures .0 ∙ c .before .before .before .before .before .big16 .ensures) in
-    simp (le-leb _ _ (d .before .before .if1 .left), eq-eqb _ _ (sym (d .before .byte-at .ensures) ∙ d .if2 .left), len)
+    rw (sized (c .before .before .before .before))
     (simp (eq-eqb _ _ (c .before .before .before .if3 .left), le-leb _ _ (c .before .before .if4 .left), le-leb _ _ (c .before .if5 .left), le-leb _ _ (c .if6 .left)))
 
 pub field-spec : {M : Type 1} → statement M

@@ -1,5 +1,5 @@
 -- Each step of the code is the next step of the definition.
-use mathlib.Core.Path.{_≡_, sym, _∙_}
+use mathlib.Core.Path.{sym, _∙_}
 use Rattle.park.specs.Reading.{groupIn, unless, _then_}
 use borrow.Author.Needs.{needs}
 use Rattle.checking.proofs.group.Statement.{statement}

@@ -1,10 +1,25 @@
 -- Each test of the code is the next test of the definition.
+use Prim.Native.Nat.{ℕ}
 use mathlib.Core.Path.{_≡_, sym, _∙_}
+use lib.Dec.{leb}
+use Rattle.park.specs.declared.refusal.Refusal.the-variants.{Bounds}
+use Rattle.park.specs.declared.answer.Verdict.{Verdict}
 use borrow.Author.Tests.{le-leb, lt-leb}
 use Rattle.park.specs.Reading.{headIn, unless, _then_}
 use borrow.Author.Needs.{needs}
 use Rattle.checking.proofs.head.Statement.{statement}
 use Rattle.checking.proofs.head.Tie as tie
+
+-- the tests of n and the root, once the field is known to be whole
+abbrev tests : ℕ → ℕ → Verdict
+tests nodes root =
+    unless (leb 1 nodes) Bounds then unless (leb nodes 256) Bounds then unless (leb 1 root) Bounds then unless (leb root nodes) Bounds
+
+whole : (c : tie.After-big162) → headIn (c .before .before .before .before .before .before .args .file .now) ≡ tests (c .before .big16 .result) (c .big162 .result)
+unfolding headIn unless _then_
+whole c =
+    let d = c .before .before in
+    simp (sym (d .before .before .field .ensures) ∙ d .enum-told .given .1, sym (c .before .big16 .ensures), sym (c .big162 .ensures))
 
 field-requires : tie.Need-field-requires
 field-requires c κs = search needs
@@ -26,39 +41,24 @@ big16-requires-2 : tie.Need-big16-requires-2
 big16-requires-2 c κs = search needs
 
 returns-2 : tie.Need-returns-2
-unfolding headIn unless _then_
-returns-2 c =
-    let d = c .before .before .before in
-    simp (sym (d .before .before .field .ensures) ∙ d .enum-told .given .1, sym (c .before .before .big16 .ensures), sym (c .before .big162 .ensures))
-    (simp (lt-leb _ _ (c .if1 .taken)))
+unfolding unless _then_
+returns-2 c = rw (whole (c .before)) (simp (lt-leb _ _ (c .if1 .taken)))
 
 returns-3 : tie.Need-returns-3
-unfolding headIn unless _then_
-returns-3 c =
-    let d = c .before .before .before .before in
-    simp (sym (d .before .before .field .ensures) ∙ d .enum-told .given .1, sym (c .before .before .before .big16 .ensures), sym (c .before .before .big162 .ensures))
-    (simp (le-leb _ _ (c .before .if1 .left), lt-leb _ _ (c .if2 .taken)))
+unfolding unless _then_
+returns-3 c = rw (whole (c .before .before)) (simp (le-leb _ _ (c .before .if1 .left), lt-leb _ _ (c .if2 .taken)))
 
 returns-4 : tie.Need-returns-4
-unfolding headIn unless _then_
-returns-4 c =
-    let d = c .before .before .before .before .before in
-    simp (sym (d .before .before .field .ensures) ∙ d .enum-told .given .1, sym (c .before .before .before .before .big16 .ensures), sym (c .before .before .before .big162 .ensures))
-    (simp (le-leb _ _ (c .before .before .if1 .left), le-leb _ _ (c .before .if2 .left), lt-leb _ _ (c .if3 .taken)))
+unfolding unless _then_
+returns-4 c = rw (whole (c .before .before .before)) (simp (le-leb _ _ (c .before .before .if1 .left), le-leb _ _ (c .before .if2 .left), lt-leb _ _ (c .if3 .taken)))
 
 returns-5 : tie.Need-returns-5
-unfolding headIn unless _then_
-returns-5 c =
-    let d = c .before .before .before .before .before .before in
-    simp (sym (d .before .before .field .ensures) ∙ d .enum-told .given .1, sym (c .before .before .before .before .before .big16 .ensures), sym (c .before .before .before .before .big162 .ensures))
-    (simp (le-leb _ _ (c .before .before .before .if1 .left), le-leb _ _ (c .before .before .if2 .left), le-leb _ _ (c .before .if3 .left), lt-leb _ _ (c .if4 .taken)))
+unfolding unless _then_
+returns-5 c = rw (whole (c .before .before .before .before)) (simp (le-leb _ _ (c .before .before .before .if1 .left), le-leb _ _ (c .before .before .if2 .left), le-leb _ _ (c .before .if3 .left), lt-leb _ _ (c .if4 .taken)))
 
 returns-6 : tie.Need-returns-6
-unfolding headIn unless _then_
-returns-6 c =
-    let d = c .before .before .before .before .before .before in
-    simp (sym (d .before .before .field .ensures) ∙ d .enum-told .given .1, sym (c .before .before .before .before .before .big16 .ensures), sym (c .before .before .before .before .big162 .ensures))
-    (simp (le-leb _ _ (c .before .before .before .if1 .left), le-leb _ _ (c .before .before .if2 .left), le-leb _ _ (c .before .if3 .left), le-leb _ _ (c .if4 .left)))
+unfolding unless _then_
+returns-6 c = rw (whole (c .before .before .before .before)) (simp (le-leb _ _ (c .before .before .before .if1 .left), le-leb _ _ (c .before .before .if2 .left), le-leb _ _ (c .before .if3 .left), le-leb _ _ (c .if4 .left)))
 
 pub head-spec : {M : Type 1} → statement M
 head-spec =

@@ -1,5 +1,5 @@
 -- The field's place and length are the definition's.
-use mathlib.Core.Path.{_≡_, sym, _∙_}
+use mathlib.Core.Path.{sym, _∙_}
 use Rattle.park.specs.Reading.{stateIn}
 use borrow.Author.Needs.{needs}
 use Rattle.checking.proofs.state.Statement.{statement}

@@ -1,6 +1,6 @@
 -- A shift below the width is the power itself.
-use mathlib.Core.Path.{_≡_, sym}
-use Prim.Native.Nat.{_^_, min, _*_, _<_, _≤_}
+use mathlib.Core.Path.{_≡_}
+use Prim.Native.Nat.{_^_, min, _<_}
 use native.Mathlib.Omega.{arith}
 use native.Mathlib.Nat.{mod-eq-of-lt, one-mul, lt-of-le-of-lt}
 use lib.Pow.{pow-mono}

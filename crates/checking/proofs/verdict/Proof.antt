@@ -1,5 +1,5 @@
 -- The fields one after the other are the definition's steps.
-use mathlib.Core.Path.{_≡_, sym, _∙_}
+use mathlib.Core.Path.{sym, _∙_}
 use Rattle.park.specs.Reading.{verdictOf, _then_}
 use borrow.Author.Needs.{needs}
 use Rattle.checking.proofs.verdict.Statement.{statement}

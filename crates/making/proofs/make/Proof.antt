@@ -1,5 +1,5 @@
 -- The head and the fields behind it are one store.
-use mathlib.Core.Path.{_≡_, sym, _∙_, ap}
+use mathlib.Core.Path.{_∙_}
 use Rattle.making.specs.Making.{linksMade, groupMade, stateMade, fileOf}
 use Rattle.making.proofs.MakeLaws.{file-go}
 use borrow.Author.Needs.{needs}

@@ -1,7 +1,6 @@
 -- The field is put where the group is of 32 bytes; else its length is one that no field may have.
-use mathlib.Core.Path.{_≡_, sym, _∙_, ap}
+use mathlib.Core.Path.{_∙_}
 use borrow.Author.Tests.{ne-eqb}
-use lib.ListN.{length}
 use Rattle.making.specs.Making.{groupMade, stateMade}
 use Rattle.making.proofs.MakeLaws.{group-go, made-stop}
 use borrow.Author.Needs.{needs}

@@ -1,5 +1,5 @@
 -- The field is put where the links are three numbers each and at most 1,024; else its length is one that no field may have.
-use mathlib.Core.Path.{_≡_, sym, _∙_, ap}
+use mathlib.Core.Path.{_≡_, _∙_}
 use mathlib.Core.Bool.{false, _&&_}
 use Prim.Native.Nat.{_%_}
 use borrow.Author.Tests.{ne-eqb, eq-eqb, lt-leb}

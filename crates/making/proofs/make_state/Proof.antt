@@ -1,10 +1,8 @@
 -- The field is put where the state is right; else its length is one that no field may have.
 use mathlib.Core.List.{[]}
-use mathlib.Core.Path.{_≡_, sym, _∙_, ap}
+use mathlib.Core.Path.{_≡_, sym, _∙_}
 use mathlib.Core.Bool.{true, false}
-use mathlib.Core.List.{List}
 use native.Mathlib.Omega.{arith}
-use Prim.Native.Nat.{ℕ, _*_}
 use Rattle.park.specs.ParkFile.{stateBytes}
 use Rattle.slices.specs.Slices.{cellsOf}
 use Rattle.making.specs.Making.{stateRight, stateMade}

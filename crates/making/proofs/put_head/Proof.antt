@@ -1,8 +1,6 @@
 -- A byte and the two behind it are one store.
 use Rattle.wire.specs.Big.{bytesOf}
 use Rattle.making.proofs.MakeLaws.{head-put}
-use native.Mathlib.Numerals.{add-one}
-use mathlib.Core.Path.{sym, _∙_}
 use borrow.Author.Needs.{needs}
 use Rattle.making.proofs.put_head.Statement.{statement}
 use Rattle.making.proofs.put_head.Tie as tie

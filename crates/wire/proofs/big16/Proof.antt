@@ -1,6 +1,5 @@
 -- A number that starts outside the slice is 0; else it is its two bytes.
 use mathlib.Core.Path.{sym}
-use native.Mathlib.Omega.{arith}
 use Rattle.wire.proofs.BigLaws.{big-out, big-two}
 use borrow.Author.Needs.{needs}
 use Rattle.wire.proofs.big16.Statement.{statement}

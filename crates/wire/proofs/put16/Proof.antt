@@ -1,7 +1,7 @@
 -- Two stores of a byte are one store of the two bytes.
 use Rattle.wire.specs.Big.{bytesOf}
 use native.Mathlib.Numerals.{add-one}
-use mathlib.Core.Path.{sym, ap}
+use mathlib.Core.Path.{sym}
 use Rattle.wire.proofs.BigLaws.{sets-out, bytes-two}
 use borrow.Author.Needs.{needs}
 use Rattle.wire.proofs.put16.Statement.{statement}

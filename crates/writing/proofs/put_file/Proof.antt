@@ -1,6 +1,5 @@
 -- Where there is room, the part of the area that starts at the place takes the file.
-use mathlib.Core.Path.{_≡_, refl, sym, _∙_, ap}
-use mathlib.Core.List.{_++_}
+use mathlib.Core.Path.{refl, sym}
 use borrow.Author.Tests.{le-leb, lt-leb}
 use Rattle.park.specs.Reading.{unless, _then_}
 use Rattle.writing.specs.Area.{roomFor, areaWith}

@@ -1,14 +1,14 @@
 -- What the whole search comes to is what the search from the place `at` comes to; each turn takes one link off.
 use Prim.Native.Nat.{_-_, _≤_}
 use native.Mathlib.Omega.{arith}
-use mathlib.Core.Path.{_≡_, refl}
+use mathlib.Core.Path.{_≡_, refl, sym, _∙_}
 use lib.ListN.{length, drop}
 use borrow.Author.Needs.{needs}
 use Rattle.measure.specs.Measure.{ceiling}
 use Rattle.slices.specs.Slices.{linksOf}
+use Rattle.slices.specs.Reading.{nodeAt, linkAt}
 use Rattle.round.specs.Scan.{unheard, passedAll}
-use Rattle.slices.specs.Reading.{nodeAt}
-use Rattle.round.proofs.ScanLaws.{passed-next, passed-end}
+use Rattle.round.proofs.ScanLaws.{untouched, passed-next, passed-end}
 use Rattle.round.proofs.node.pass_links.Statement.{statement}
 use Rattle.round.proofs.node.pass_links.Tie as tie
 
@@ -24,11 +24,26 @@ abbrev μ-loop : tie.MeasureT-loop
 loop-holds : tie.Need-loop-holds Inv-loop μ-loop
 loop-holds c = (search needs, refl)
 
-pass-link-requires : tie.Need-pass-link-requires Inv-loop μ-loop
-pass-link-requires c κs = omega arith
-
 add-at : tie.Need-add-at Inv-loop μ-loop
 add-at c = omega arith
+
+mul-touches : tie.Need-mul-touches Inv-loop μ-loop
+mul-touches c = search needs
+
+shared-slice-read-touches : tie.Need-shared-slice-read-touches Inv-loop μ-loop
+shared-slice-read-touches c = omega arith
+
+mul-touches-2 : tie.Need-mul-touches-2 Inv-loop μ-loop
+mul-touches-2 c = omega arith
+
+shared-slice-read-touches-2 : tie.Need-shared-slice-read-touches-2 Inv-loop μ-loop
+shared-slice-read-touches-2 c = omega arith
+
+touches-requires : tie.Need-touches-requires Inv-loop μ-loop
+touches-requires c κs = search needs
+
+pass-link-requires : tie.Need-pass-link-requires Inv-loop μ-loop
+pass-link-requires c κs = omega arith
 
 loop-less : tie.Need-loop-less Inv-loop μ-loop
 loop-less c = omega arith
@@ -36,8 +51,19 @@ loop-less c = omega arith
 loop-again : tie.Need-loop-again Inv-loop μ-loop
 loop-again c = (
   omega arith,
-  passed-next _ _ _ _ _ _ _ _ _ _ (c .before .before .loop .inv .1) (c .before .before .before .before .before .before .before .before .before .pre) (c .before .loop-test .taken) _ (c .pass-link .ensures),
+  passed-next _ _ _ _ _ _ _ _ _ _ (c .before .before .before .before .before .before .loop .inv .1) (c .before .before .before .before .before .before .before .before .before .before .before .before .before .pre) (c .before .before .before .before .before .loop-test .taken) _ (c .pass-link .ensures),
 )
+
+loop-less-2 : tie.Need-loop-less-2 Inv-loop μ-loop
+loop-less-2 c = omega arith
+
+loop-again-2 : tie.Need-loop-again-2 Inv-loop μ-loop
+loop-again-2 c =
+    let head = c .before .before .before .before .before in
+    let a = c .before .before .before .before .before .before .before .before .before .before .before .before .args in
+    let e = untouched (nodeAt ceiling (a .dists .now)) (nodeAt 0 (a .parents .now)) (nodeAt 0 (a .marks .now)) (a .node) (head .loop .best)
+    (linkAt (a .lows .now) (a .highs .now) (a .costs .now) (head .loop .at)) (sym (c .before .touches .ensures) ∙ c .if1 .left) in
+    (omega arith, passed-next _ _ _ _ _ _ _ _ _ _ (head .loop .inv .1) (c .before .before .before .before .before .before .before .before .before .before .before .before .pre) (c .before .before .before .before .loop-test .taken) _ e)
 
 returns : tie.Need-returns Inv-loop μ-loop
 returns c = passed-end _ _ _ _ _ _ _ _ _ _ (c .before .loop .inv .1) (c .loop-test .left)
@@ -45,4 +71,19 @@ returns c = passed-end _ _ _ _ _ _ _ _ _ _ (c .before .loop .inv .1) (c .loop-te
 pub pass-links-spec : {M : Type 1} → statement M
 pass-links-spec =
     tie.close
-    (tie.spec Inv-loop μ-loop loop-holds pass-link-requires add-at loop-less loop-again returns)
+    (tie.spec
+    Inv-loop
+    μ-loop
+    loop-holds
+    add-at
+    mul-touches
+    shared-slice-read-touches
+    mul-touches-2
+    shared-slice-read-touches-2
+    touches-requires
+    pass-link-requires
+    loop-less
+    loop-again
+    loop-less-2
+    loop-again-2
+    returns)

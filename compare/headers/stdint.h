@@ -1,0 +1,9 @@
+/* For `serve.c` and the README's example where the compiler comes without headers: the little of the
+ * C library that they and chandvreksh.h use. */
+#ifndef STDINT_H
+#define STDINT_H
+typedef __UINT8_TYPE__ uint8_t;
+typedef __UINT16_TYPE__ uint16_t;
+typedef __UINT32_TYPE__ uint32_t;
+typedef __UINT64_TYPE__ uint64_t;
+#endif

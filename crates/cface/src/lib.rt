@@ -1,0 +1,129 @@
+// The seven calls for C: numbers, and lent bytes as a pointer and a length. `answer` takes eight 64-bit numbers: the
+// refusal's number (0 for none), its place in bytes, then the call's own values; a value that is not used is 0. No call
+// keeps state, allocates or blocks. include/chandvreksh.h declares them.
+mod slots;
+
+use measure::Rounds;
+use slots::put_check;
+use slots::put_exact;
+use slots::put_right;
+use slots::put_run;
+use slots::put_summary;
+use slots::put_way;
+use slots::put_write;
+ghost use mathlib.Core.Path.{_≡_};
+ghost use mathlib.Core.List.{List};
+ghost use Prim.Native.Nat.{ℕ};
+ghost use lib.ListN.{length};
+ghost use lib.Seq.{sets};
+ghost use Rattle.park.specs.Reading.{checkOf};
+ghost use Rattle.making.specs.Making.{fileOf};
+ghost use Rattle.writing.specs.Area.{areaWith};
+ghost use Rattle.writing.specs.Writing.{writeVerdict, writeOf};
+ghost use Rattle.running.specs.Running.{runAnswer, runVerdict, runFile};
+ghost use Rattle.exacting.specs.declared.ExactAnswer.{ExactAnswer};
+ghost use Rattle.exacting.specs.Exacting.{Exacted};
+ghost use Rattle.judging.specs.declared.RightAnswer.{RightAnswer};
+ghost use Rattle.judging.specs.Judging.{Judged};
+ghost use Rattle.asking.specs.Asking.{wayAnswer};
+ghost use Rattle.summing.specs.Summing.{summaryAnswer};
+ghost use Rattle.chandvreksh.specs.Values.{checkValues, runValues, exactValues, writeValues, rightValues, wayValues, summaryValues};
+
+// Check: nodes, links.
+#[no_mangle]
+pub extern "C" fn chandvreksh_check(file: &[u8], answer: &mut [u64; 8])
+    ensures { λ _. ⌜ now (answer .exit) ≡ sets (now (answer .entry)) 0 (checkValues (checkOf (now (file .entry)))) ⌝ }
+{
+    put_check(chandvreksh::check(file), answer);
+}
+
+// Run: rounds done, and 1 if it is quiet. The count is in rounds, the place in bytes.
+#[no_mangle]
+pub extern "C" fn chandvreksh_run(
+    file: &[u8],
+    count: u32,
+    area: &mut [u8],
+    place: usize,
+    answer: &mut [u64; 8],
+)
+    ensures { λ _.
+        let s : List ℕ = now (file .entry) in
+        let old : List ℕ = now (area .entry) in
+        ⌜ (now (answer .exit) ≡ sets (now (answer .entry)) 0 (runValues (runAnswer s count (length old) place))) × (now (area .exit) ≡ areaWith (runVerdict s count (length old) place) (runFile s count) place old) ⌝ }
+{
+    put_run(chandvreksh::run(file, Rounds(count), area, place), answer);
+}
+
+// Exact: no values of its own. The place is in bytes.
+#[no_mangle]
+pub extern "C" fn chandvreksh_exact(
+    file: &[u8],
+    area: &mut [u8],
+    place: usize,
+    answer: &mut [u64; 8],
+)
+    ensures { λ _.
+        ⌜ ((found : ExactAnswer) × Exacted (now (file .entry)) (now (area .entry)) place found (now (area .exit)) × (now (answer .exit) ≡ sets (now (answer .entry)) 0 (exactValues found))) ⌝ }
+{
+    put_exact(chandvreksh::exact_file(file, area, place), answer);
+}
+
+// Write: `links` has three numbers a link (lower node, higher node, cost in cost units), distances are in cost units, and
+// the place is in bytes.
+#[no_mangle]
+pub extern "C" fn chandvreksh_write(
+    nodes: u16,
+    root: u16,
+    links: &[u16],
+    group: &[u8],
+    distances: &[u32],
+    parents: &[u16],
+    marks: &[u8],
+    area: &mut [u8],
+    place: usize,
+    answer: &mut [u64; 8],
+)
+    ensures { λ _.
+        let file : List ℕ = fileOf nodes root (now (links .entry)) (now (group .entry)) (now (distances .entry)) (now (parents .entry)) (now (marks .entry)) in
+        let old : List ℕ = now (area .entry) in
+        ⌜ (now (answer .exit) ≡ sets (now (answer .entry)) 0 (writeValues (writeOf file (length old) place))) × (now (area .exit) ≡ areaWith (writeVerdict file (length old) place) file place old) ⌝ }
+{
+    put_write(
+        chandvreksh::write(
+            nodes,
+            root,
+            links,
+            group,
+            distances,
+            parents,
+            marks,
+            area,
+            place,
+        ),
+        answer,
+    );
+}
+
+// Right: 1 for yes.
+#[no_mangle]
+pub extern "C" fn chandvreksh_right(file: &[u8], answer: &mut [u64; 8])
+    ensures { λ _. ⌜ ((found : RightAnswer) × Judged (now (file .entry)) found × (now (answer .exit) ≡ sets (now (answer .entry)) 0 (rightValues found))) ⌝ }
+{
+    put_right(chandvreksh::right(file), answer);
+}
+
+// Way: the node asked about, 0 reached, 1 broken or 2 looping, and the hops or the node.
+#[no_mangle]
+pub extern "C" fn chandvreksh_way(file: &[u8], node: u16, answer: &mut [u64; 8])
+    ensures { λ _. ⌜ now (answer .exit) ≡ sets (now (answer .entry)) 0 (wayValues (wayAnswer (now (file .entry)) node)) ⌝ }
+{
+    put_way(chandvreksh::way_of_node(file, node), answer);
+}
+
+// Summary: members, marked nodes and served members, in nodes.
+#[no_mangle]
+pub extern "C" fn chandvreksh_summary(file: &[u8], answer: &mut [u64; 8])
+    ensures { λ _. ⌜ now (answer .exit) ≡ sets (now (answer .entry)) 0 (summaryValues (summaryAnswer (now (file .entry)))) ⌝ }
+{
+    put_summary(chandvreksh::summary(file), answer);
+}

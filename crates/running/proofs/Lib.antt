@@ -1,0 +1,2 @@
+pub mod RunFileLaws
+pub mod RunTheorems

@@ -1,0 +1,3 @@
+pub mod Marked
+pub mod Served
+pub mod Summing
