@@ -7,7 +7,6 @@ use mathlib.Core.List.{List}
 use lib.ListN.{length}
 use lib.Dec.{leb, ltb}
 use Rattle.measure.specs.Measure.{mostRounds}
-use Rattle.measure.specs.Measure.{mostRounds}
 use Rattle.rule.specs.Round.{netOf}
 use Rattle.park.specs.declared.refusal.Refusal.the-variants.{Count, Unsettled}
 use Rattle.park.specs.declared.answer.Verdict.{Verdict}

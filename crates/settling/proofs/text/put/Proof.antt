@@ -1,11 +1,11 @@
--- `settle::text::put` meets its contract: the text is left out, or ends within the page.
+-- `settling::text::put` meets its contract: the text is left out, or ends within the page.
 use native.Mathlib.Omega.{arith}
 use Prim.Native.Nat.{_≤_, _+_}
 use lib.ListN.{length}
-use Rattle.settle.proofs.CountsLaws.{counts}
+use Rattle.settling.proofs.CountsLaws.{counts}
 use borrow.Author.Needs.{needs}
-use Rattle.settle.proofs.text.put.Statement.{statement}
-use Rattle.settle.proofs.text.put.Tie as tie
+use Rattle.settling.proofs.text.put.Statement.{statement}
+use Rattle.settling.proofs.text.put.Tie as tie
 
 sub-if1 : tie.Need-sub-if1
 sub-if1 c = search needs

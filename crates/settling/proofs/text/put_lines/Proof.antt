@@ -1,11 +1,11 @@
--- `settle::text::put_lines` meets its contract: the page goes on within itself, and the places of the records are small.
+-- `settling::text::put_lines` meets its contract: the page goes on within itself, and the places of the records are small.
 use borrow.Author.Needs.{needs}
 use Prim.Native.Nat.{_-_, _≤_}
 use mathlib.Core.Path.{_≡_}
 use lib.ListN.{length}
-use Rattle.settle.proofs.CountsLaws.{counts}
-use Rattle.settle.proofs.text.put_lines.Statement.{statement}
-use Rattle.settle.proofs.text.put_lines.Tie as tie
+use Rattle.settling.proofs.CountsLaws.{counts}
+use Rattle.settling.proofs.text.put_lines.Statement.{statement}
+use Rattle.settling.proofs.text.put_lines.Tie as tie
 
 abbrev Inv-loop : tie.InvT-loop
 Inv-loop page₀ at file nodes links first most end₀ done₀ page end done =

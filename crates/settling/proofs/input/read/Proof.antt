@@ -1,11 +1,11 @@
--- `settle::input::read` meets its contract: the bytes read never pass the room's end, and each turn reads one at least.
+-- `settling::input::read` meets its contract: the bytes read never pass the room's end, and each turn reads one at least.
 use borrow.Author.Needs.{needs}
 use Prim.Native.Nat.{_-_, _≤_}
 use mathlib.Core.Path.{_≡_}
 use lib.ListN.{length}
-use Rattle.settle.proofs.CountsLaws.{counts}
-use Rattle.settle.proofs.input.read.Statement.{statement}
-use Rattle.settle.proofs.input.read.Tie as tie
+use Rattle.settling.proofs.CountsLaws.{counts}
+use Rattle.settling.proofs.input.read.Statement.{statement}
+use Rattle.settling.proofs.input.read.Tie as tie
 
 abbrev Inv-loop : tie.InvT-loop
 Inv-loop fd room₀ done₀ room done = (length room ≡ length room₀) × (done ≤ length room)

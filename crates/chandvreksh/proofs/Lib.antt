@@ -1,0 +1,3 @@
+pub mod CaseF
+pub mod Cases
+pub mod Coincide
