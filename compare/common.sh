@@ -20,6 +20,7 @@ library() {
     if [ -n "$given" ]; then
         archive=$given
     else
+        rt check cface # on all processors; staticlib alone proves one crate after the other
         rt staticlib cface
         archive=target/staticlib/libcface.a
     fi

@@ -1,6 +1,6 @@
 -- What is taken apart is what the file holds: the columns of a file that is read are the links, the state and the park of the file.
-use Prim.Native.Nat.{ℕ, zero, suc, _+_, _*_, _-_, _/_, _%_, _^_, _≤_, _<_}
-use mathlib.Core.Path.{_≡_, refl, sym, ap, ap₂, fun-ext, _∙_}
+use Prim.Native.Nat.{ℕ, zero, suc, _+_, _*_, _-_, _/_, _%_, _^_, _≤_, _<_, min}
+use mathlib.Core.Path.{_≡_, refl, sym, ap, fun-ext, _∙_}
 use mathlib.Core.List.{List}
 use native.Mathlib.Nat.{add-zero, mul-assoc, add-mul-div-left}
 use native.Mathlib.Decide.{decLt}
@@ -14,11 +14,11 @@ use Rattle.wire.specs.Big.{Bytes, big}
 use Rattle.wire.proofs.BigLaws.{big-one}
 use Rattle.slices.specs.Group.{bitSet, memberIn}
 use Rattle.slices.specs.Slices.{linksOf, cellsOf, parkOf}
-use Rattle.park.specs.ParkFile.{ParkFile, parkIn}
-use Rattle.park.specs.Reading.{linksRead, cellsRead, fileIn, nodesIn, rootIn, linkCount, groupAt, stateAt, readPark, park}
+use Rattle.park.specs.ParkFile.{parkIn}
+use Rattle.park.specs.declared.answer.Verdict.the-variants.{Fine}
+use Rattle.park.specs.Reading.{verdictOf, linksRead, cellsRead, fileIn, nodesIn, rootIn, linkCount, groupAt, stateAt}
 use Rattle.park.proofs.FieldLaws.{part, length-part}
-use Rattle.park.proofs.RecordLaws.{length-links}
-use Rattle.park.proofs.RoundTrip.{FileRead, file-read, read-fine, six, length-read}
+use Rattle.park.proofs.RoundTrip.{FileRead, file-read, six, length-read}
 use Rattle.apart.specs.Columns.{column, little}
 
 pub links-columns : (s : List ℕ) (at n : ℕ)
@@ -131,23 +131,38 @@ module _ (s : List ℕ) (bytes : Bytes s) (r : FileRead s) where
       let c : 54 + 6 * l ≡ stateAt s + 3 + 6 = omega (arith, six s bytes r) in
       rw (a, b, c) (cells-columns s (stateAt s + 3) (nodesIn s))
 
--- the number of links of the park that a file is read as
-count-of : (s : List ℕ) (f : ParkFile) → fileIn s ≡ f → (nodesIn s ≡ f .nodes) × (linkCount s ≡ length (f .links))
-unfolding fileIn
-count-of s f e = (ap (λ (g : ParkFile). g .nodes) e, sym (length-links s 10 (linkCount s)) ∙ ap (λ (g : ParkFile). length (g .links)) e)
+-- What was taken from a file that is not refused: the numbers of its nodes and links, and slices that hold its park and its table.
+module _ (s : List ℕ) (fine : verdictOf s ≡ Fine) where
+  pub nodes-said : min 256 (nodesIn s) ≡ nodesIn s
+  nodes-said = omega (arith, file-read s fine .few)
 
--- the park of a file, from its columns
-pub park-apart : (s : List ℕ) (f : ParkFile) → Bytes s → readPark s ≡ park f → parkColumns s (f .nodes) (f .root) (length (f .links)) ≡ parkIn f
-park-apart s f b e =
-    let p = read-fine s f e in
-    let n = count-of s f (p .1) in
-    ap₂ (λ (x y : ℕ). parkColumns s x (f .root) y) (sym (n .0)) (sym (n .1))
-    ∙ ap (λ (g : ParkFile). parkColumns s (nodesIn s) (g .root) (linkCount s)) (sym (p .1))
-    ∙ park-here s b (file-read s (p .0)) ∙ ap parkIn (p .1)
+  pub links-said : min 1024 (linkCount s) ≡ linkCount s
+  links-said = omega (arith, file-read s fine .links .most)
 
--- the table of a file, from its columns
-pub state-apart : (s : List ℕ) (f : ParkFile) → Bytes s → readPark s ≡ park f → stateColumns s (f .nodes) (length (f .links)) ≡ f .state
-state-apart s f b e =
-    let p = read-fine s f e in
-    let n = count-of s f (p .1) in
-    ap₂ (λ (x y : ℕ). stateColumns s x y) (sym (n .0)) (sym (n .1)) ∙ state-here s b (file-read s (p .0)) ∙ ap (λ (g : ParkFile). g .state) (p .1)
+  pub nodes-here : nodesIn s ≡ fileIn s .nodes
+  unfolding fileIn
+  nodes-here = refl
+
+  root-here : rootIn s ≡ fileIn s .root
+  unfolding fileIn
+  root-here = refl
+
+  module _ (bytes : Bytes s) (links : ℕ) (el : links ≡ linkCount s) where
+    pub park-taken : (n root a b c w : ℕ) (ls hs cs ws : List ℕ) → n ≡ nodesIn s → root ≡ rootIn s → (a ≡ linkCount s) × (b ≡ linkCount s) × (c ≡ linkCount s) → w ≡ 4
+        → (ls ≡ column (big 2 s) 10 6 a) × (hs ≡ column (big 2 s) 12 6 b) × (cs ≡ column (big 2 s) 14 6 c) → ws ≡ column (little 8 s) (13 + 6 * links) 8 w
+        → parkOf n root ls hs cs ws ≡ parkIn (fileIn s)
+    park-taken n root a b c w ls hs cs ws en er (ea, eb, ec) ew (tl, th, tc) tw =
+        let l = tl ∙ ap (column (big 2 s) 10 6) ea in
+        let h = th ∙ ap (column (big 2 s) 12 6) eb in
+        let k = tc ∙ ap (column (big 2 s) 14 6) ec in
+        let g = tw ∙ (λ i. column (little 8 s) (13 + 6 * el i) 8 (ew i)) in
+        (λ i. parkOf (en i) ((er ∙ root-here) i) (l i) (h i) (k i) (g i)) ∙ park-here s bytes (file-read s fine)
+
+    pub state-taken : (a b c : ℕ) (ds ps ms : List ℕ) → (a ≡ nodesIn s) × (b ≡ nodesIn s) × (c ≡ nodesIn s)
+        → (ds ≡ column (big 4 s) (48 + 6 * links) 7 a) × (ps ≡ column (big 2 s) (52 + 6 * links) 7 b) × (ms ≡ column (big 1 s) (54 + 6 * links) 7 c)
+        → cellsOf ds ps ms ≡ fileIn s .state
+    state-taken a b c ds ps ms (ea, eb, ec) (td, tp, tm) =
+        let d = td ∙ (λ i. column (big 4 s) (48 + 6 * el i) 7 (ea i)) in
+        let p = tp ∙ (λ i. column (big 2 s) (52 + 6 * el i) 7 (eb i)) in
+        let m = tm ∙ (λ i. column (big 1 s) (54 + 6 * el i) 7 (ec i)) in
+        (λ i. cellsOf (d i) (p i) (m i)) ∙ state-here s bytes (file-read s fine)

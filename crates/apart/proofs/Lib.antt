@@ -1,3 +1,2 @@
 pub mod ColumnLaws
-pub mod StateLaws
 pub mod ApartLaws

@@ -2,10 +2,9 @@
 -- Places and steps are in bytes.
 use Prim.Native.Nat.{ℕ, zero, suc, _+_, _*_}
 use mathlib.Core.Bool.{cond}
-use mathlib.Core.List.{List, [], _∷_, _++_}
+use mathlib.Core.List.{List, [], _∷_}
 use lib.ListN.{getD}
 use lib.Dec.{leb}
-use Rattle.wire.specs.Big.{bytesOf}
 
 -- n numbers, one from each record of `step` bytes, the first at `from`; `read` says what number stands at a place
 unfoldable pub column : (ℕ → ℕ) → ℕ → ℕ → ℕ → List ℕ
@@ -20,7 +19,3 @@ little (suc k) s i = getD s i 0 + 256 * little k s (i + 1)
 -- the next record's place; a place outside the file is left as it is, since nothing stands behind it
 abbrev pub nextPlace : ℕ → ℕ → ℕ → ℕ
 nextPlace size at step = cond (leb size at) at (at + step)
-
--- "each node: distance (4), parent (2), mark (1)"
-abbrev pub cellBytes : ℕ → ℕ → ℕ → List ℕ
-cellBytes dist parent mark = bytesOf 4 dist ++ (bytesOf 2 parent ++ (mark ∷ []))

@@ -1,27 +1,38 @@
-// Taking a checked file apart into lent slices of plain numbers, and putting a state back into its bytes. Every call is
-// total: a byte outside the file is read as 0, and one outside the lent area is dropped. State is taken and put as
-// stored, not tidied. Places and steps are in bytes.
+// Taking a checked file apart into lent slices of plain numbers. Every call is total: a byte outside the file is read as 0.
+// State is taken as stored, not tidied. Places and steps are in bytes.
 ghost use mathlib.Core.Path.{_≡_};
-ghost use Prim.Native.Nat.{ℕ, _+_, _*_, _<_};
+ghost use Prim.Native.Nat.{ℕ, _+_, _*_, _≤_, _<_, min};
 ghost use mathlib.Core.List.{List};
 ghost use lib.ListN.{length, getD};
-ghost use lib.Seq.{sets};
-ghost use Rattle.rule.specs.Round.{Cell};
 ghost use Rattle.wire.specs.Big.{big};
-ghost use Rattle.park.specs.ParkFile.{stateBytes};
-ghost use Rattle.slices.specs.Slices.{cellsOf};
-ghost use Rattle.apart.specs.Columns.{column, little, nextPlace, cellBytes};
+ghost use Rattle.park.specs.Reading.{nodesIn, linkCount};
+ghost use Rattle.apart.specs.Columns.{column, little, nextPlace};
+
+// The number of nodes that a file's head says; at most 256, as many as a park may have.
+pub fn nodes(file: &[u8]) -> usize
+    ensures { λ r. ⌜ (r ≡ min 256 (nodesIn (now (file .entry)))) × (r ≤ 256) ⌝ }
+{
+    let said = wire::number_at(file, 3);
+    if 256 < said {
+        return 256;
+    }
+    said
+}
+
+// The number of links by the length of their field; at most 1,024, as many as a park may have.
+pub fn links(file: &[u8]) -> u16
+    ensures { λ r. ⌜ (r ≡ min 1024 (linkCount (now (file .entry)))) × (r ≤ 1024) ⌝ }
+{
+    let said = wire::big16(file, 8) / 6;
+    if 1024 < said {
+        return 1024;
+    }
+    said
+}
 
 // A step of 8 bits as a count of bytes.
 fn wide8(x: u8) -> usize
     ensures { λ r. ⌜ (r ≡ x) × (r < 256) ⌝ }
-{
-    x as usize
-}
-
-// A number of 16 bits as a count.
-fn wide16(x: u16) -> usize
-    ensures { λ r. ⌜ (r ≡ x) × (r < 65536) ⌝ }
 {
     x as usize
 }
@@ -128,7 +139,7 @@ pub fn take_links(file: &[u8], lows: &mut [u16], highs: &mut [u16], costs: &mut 
 pub fn take_group(file: &[u8], links: u16, out: &mut [u64])
     ensures { λ _. ⌜ now (out .exit) ≡ column (little 8 (now (file .entry))) (13 + 6 * links) 8 (length (now (out .entry))) ⌝ }
 {
-    words(file, 13 + 6 * wide16(links), out)
+    words(file, 13 + 6 * wire::wide(links), out)
 }
 
 // Takes the state apart: distances (in cost units), parents and marks, as many as each slice has room for, of a file of
@@ -140,52 +151,8 @@ pub fn take_state(file: &[u8], links: u16, dists: &mut [u32], parents: &mut [u16
         × (now (parents .exit) ≡ column (big 2 bytes) (52 + 6 * links) 7 (length (now (parents .entry))))
         × (now (marks .exit) ≡ column (big 1 bytes) (54 + 6 * links) 7 (length (now (marks .entry)))) ⌝ }
 {
-    let length = 6 * wide16(links);
+    let length = 6 * wire::wide(links);
     column32(file, 48 + length, 7, dists);
     column16(file, 52 + length, 7, parents);
     column8(file, 54 + length, 7, marks);
-}
-
-// Puts one node's distance, parent and mark at a place.
-fn put_cell(area: &mut [u8], at: usize, dist: u32, parent: u16, mark: u8)
-    requires { ⌜ at < length (now area) ⌝ }
-    ensures { λ _. ⌜ now (area .exit) ≡ sets (now (area .entry)) at (cellBytes dist parent mark) ⌝ }
-{
-    wire::put32(area, at, dist);
-    wire::put16(area, at + 4, parent);
-    wire::put_byte(area, at + 6, mark);
-}
-
-// Puts distances (in cost units), parents and marks, node 1 first, as the records of the state from a place on; as many
-// as the shortest slice has.
-pub fn put_cells(area: &mut [u8], from: usize, dists: &[u32], parents: &[u16], marks: &[u8])
-    ensures { λ _.
-        let table : List Cell = cellsOf (now (dists .entry)) (now (parents .entry)) (now (marks .entry)) in
-        ⌜ now (area .exit) ≡ sets (now (area .entry)) from (stateBytes table) ⌝ }
-{
-    let mut at = from;
-    let mut i = 0;
-    while i < dists.len() {
-        if parents.len() <= i {
-            return;
-        }
-        if marks.len() <= i {
-            return;
-        }
-        if area.len() <= at {
-            return;
-        }
-        put_cell(area, at, dists[i], parents[i], marks[i]);
-        at = at + 7;
-        i = i + 1;
-    }
-}
-
-// Puts the state back into a file of as many links as are said.
-pub fn put_state(file: &mut [u8], links: u16, dists: &[u32], parents: &[u16], marks: &[u8])
-    ensures { λ _.
-        let table : List Cell = cellsOf (now (dists .entry)) (now (parents .entry)) (now (marks .entry)) in
-        ⌜ now (file .exit) ≡ sets (now (file .entry)) (48 + 6 * links) (stateBytes table) ⌝ }
-{
-    put_cells(file, 48 + 6 * wide16(links), dists, parents, marks)
 }

@@ -27,13 +27,6 @@ pub enum WayAnswer {
     Refused(Refusal),
 }
 
-// The 16-bit number at a place, in bytes, as a count.
-fn number_at(file: &[u8], at: usize) -> usize
-    ensures { λ r. ⌜ (r ≡ big 2 (now (file .entry)) at) × (r < 65536) ⌝ }
-{
-    wire::big16(file, at) as usize
-}
-
 // The way of a node of a checked file, over slices of room for the lower ends, the higher ends and the parents, which are
 // node numbers.
 fn way_over(file: &[u8], lows: &mut [u16], highs: &mut [u16], parents: &mut [u16], node: u16) -> Way
@@ -43,7 +36,7 @@ fn way_over(file: &[u8], lows: &mut [u16], highs: &mut [u16], parents: &mut [u16
 {
     apart::column16(file, 10, 6, lows);
     apart::column16(file, 12, 6, highs);
-    apart::column16(file, 52 + number_at(file, 8), 7, parents);
+    apart::column16(file, 52 + wire::number_at(file, 8), 7, parents);
     way::way_of(wire::big16(file, 5), lows, highs, parents, node)
 }
 
@@ -52,8 +45,8 @@ fn way_in(file: &[u8], node: u16) -> Way
     requires { ⌜ verdictOf (now file) ≡ Fine ⌝ }
     ensures { λ r. let s : List ℕ = now (file .entry) in ⌜ r ≡ parkWay (parkIn (fileIn s)) (fileIn s .state) node ⌝ }
 {
-    let nodes = number_at(file, 3);
-    let links = number_at(file, 8) / 6;
+    let nodes = wire::number_at(file, 3);
+    let links = wire::number_at(file, 8) / 6;
     let mut lows = [0u16; LINKS];
     let mut highs = [0u16; LINKS];
     let mut parents = [0u16; NODES];

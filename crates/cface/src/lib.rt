@@ -1,16 +1,14 @@
 // The seven calls for C: numbers, and lent bytes as a pointer and a length. `answer` takes eight 64-bit numbers: the
 // refusal's number (0 for none), its place in bytes, then the call's own values; a value that is not used is 0. No call
 // keeps state, allocates or blocks. include/chandvreksh.h declares them.
-mod slots;
-
+use answering::put_check;
+use answering::put_exact;
+use answering::put_right;
+use answering::put_run;
+use answering::put_summary;
+use answering::put_way;
+use answering::put_write;
 use measure::Rounds;
-use slots::put_check;
-use slots::put_exact;
-use slots::put_right;
-use slots::put_run;
-use slots::put_summary;
-use slots::put_way;
-use slots::put_write;
 ghost use mathlib.Core.Path.{_≡_};
 ghost use mathlib.Core.List.{List};
 ghost use Prim.Native.Nat.{ℕ};

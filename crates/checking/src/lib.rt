@@ -8,13 +8,6 @@ ghost use Prim.Native.Nat.{_+_, _*_, _^_, _-_, _≤_, _<_, min};
 ghost use lib.ListN.{getD};
 ghost use Rattle.park.specs.Reading.{fieldAt, headIn, linkAt, linksFrom, linksIn, bitsClear, groupIn, stateIn, endIn, verdictOf, checkOf};
 
-// A number of 16 bits as a count.
-fn wide(x: u16) -> usize
-    ensures { λ r. ⌜ (r ≡ x) × (r < 65536) ⌝ }
-{
-    x as usize
-}
-
 // The byte at a place, 0 outside the file.
 fn byte(file: &[u8], at: usize) -> u16
     ensures { λ r. ⌜ (r ≡ getD (now (file .entry)) at 0) × (r < 256) ⌝ }
@@ -34,7 +27,7 @@ fn field(file: &[u8], at: usize, tag: u8, step: usize, low: usize, high: usize) 
     if wire::byte_at(file, at) != tag {
         return Verdict::Refused(Refusal::Tag(at));
     }
-    let length = wide(wire::big16(file, at + 1));
+    let length = wire::wide(wire::big16(file, at + 1));
     if length % step != 0 {
         return Verdict::Refused(Refusal::Length(at));
     }
@@ -128,7 +121,7 @@ fn links(file: &[u8]) -> Verdict
     if let Verdict::Refused(r) = second {
         return Verdict::Refused(r);
     }
-    let length = wide(wire::big16(file, 8));
+    let length = wire::wide(wire::big16(file, 8));
     records(file, wire::big16(file, 3), length / 6)
 }
 
@@ -175,12 +168,12 @@ fn bits(file: &[u8], from: usize, nodes: usize) -> bool
 fn group(file: &[u8]) -> Verdict
     ensures { λ r. ⌜ r ≡ groupIn (now (file .entry)) ⌝ }
 {
-    let at = 10 + wide(wire::big16(file, 8));
+    let at = 10 + wire::wide(wire::big16(file, 8));
     let third = field(file, at, 3, 1, 32, 32);
     if let Verdict::Refused(r) = third {
         return Verdict::Refused(r);
     }
-    if bits(file, at + 3, wide(wire::big16(file, 3))) {
+    if bits(file, at + 3, wire::wide(wire::big16(file, 3))) {
         return Verdict::Fine;
     }
     Verdict::Refused(Refusal::Bit(at))
@@ -190,8 +183,8 @@ fn group(file: &[u8]) -> Verdict
 fn state(file: &[u8]) -> Verdict
     ensures { λ r. ⌜ r ≡ stateIn (now (file .entry)) ⌝ }
 {
-    let at = 45 + wide(wire::big16(file, 8));
-    let length = 7 * wide(wire::big16(file, 3));
+    let at = 45 + wire::wide(wire::big16(file, 8));
+    let length = 7 * wire::wide(wire::big16(file, 3));
     field(file, at, 4, 1, length, length)
 }
 
@@ -199,7 +192,7 @@ fn state(file: &[u8]) -> Verdict
 fn end(file: &[u8]) -> Verdict
     ensures { λ r. ⌜ r ≡ endIn (now (file .entry)) ⌝ }
 {
-    let at = 48 + wide(wire::big16(file, 8)) + 7 * wide(wire::big16(file, 3));
+    let at = 48 + wire::wide(wire::big16(file, 8)) + 7 * wire::wide(wire::big16(file, 3));
     if at < file.len() {
         return Verdict::Refused(Refusal::After(at));
     }

@@ -14,7 +14,7 @@ use Rattle.rule.proofs.TableLaws.{length-numbered, getD-numbered}
 use Rattle.slices.specs.Slices.{linksOf, parkOf}
 use Rattle.slices.specs.Group.{memberIn}
 use Rattle.slices.specs.Reading.{nodeAt}
-use Rattle.round.specs.Table.{even}
+use Rattle.tables.specs.Fit.{even}
 use Rattle.round.specs.Parent.{parentBy}
 use Rattle.slices.proofs.SliceLaws.{over, over-next, over-all}
 use Rattle.exact.specs.Nearest.{distsFrom}

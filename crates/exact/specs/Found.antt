@@ -9,7 +9,7 @@ use Rattle.measure.specs.Measure.{ceiling}
 use Rattle.rule.specs.Round.{Link, Park, numbered}
 use Rattle.slices.specs.Slices.{parkOf}
 use Rattle.slices.specs.Reading.{nodeAt}
-use Rattle.round.specs.Table.{even}
+use Rattle.tables.specs.Fit.{even}
 use Rattle.round.specs.Parent.{parentBy}
 use Rattle.exact.specs.Nearest.{distsFrom}
 use Rattle.exact.specs.Walk.{marksFrom}

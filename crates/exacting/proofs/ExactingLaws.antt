@@ -9,7 +9,6 @@ use lib.ListN.{length}
 use lib.Seq.{sets}
 use Rattle.rule.specs.Round.{Cell, Park}
 use Rattle.rule.specs.Exact.{Exact}
-use Rattle.rule.specs.Settles.{ParkOk}
 use Rattle.rule.proofs.Demand3.{exists, unique}
 use Rattle.wire.specs.Big.{Bytes, big}
 use Rattle.slices.specs.Slices.{cellsOf, parkOf}
@@ -17,13 +16,12 @@ use Rattle.park.specs.declared.refusal.Refusal.{Refusal}
 use Rattle.park.specs.declared.answer.Verdict.{Verdict}
 use Rattle.park.specs.declared.answer.Verdict.the-variants.{Fine, Refused}
 use Rattle.park.specs.ParkFile.{ParkFile, parkIn, stateBytes, encode, withState}
-use Rattle.park.specs.Reading.{verdictOf, fileIn, nodesIn, rootIn, linkCount, readPark, park, _then_}
+use Rattle.park.specs.Reading.{verdictOf, fileIn, nodesIn, rootIn, linkCount, _then_}
 use Rattle.park.proofs.VerdictLaws.{then-fine}
-use Rattle.park.proofs.RecordLaws.{length-links}
 use Rattle.park.proofs.RoundTrip.{file-read}
-use Rattle.park.proofs.ParkLaws.{read-park-ok}
+use Rattle.park.proofs.ParkLaws.{fine-ok}
 use Rattle.apart.specs.Columns.{column, little}
-use Rattle.apart.proofs.ApartLaws.{park-apart}
+use Rattle.apart.proofs.ApartLaws.{nodes-here, park-taken}
 use Rattle.writing.specs.Area.{roomFor, areaWith}
 use Rattle.placing.proofs.PlacingLaws.{state-file}
 use Rattle.exact.specs.Found.{ready, foundDists, foundParents, foundMarks, Found}
@@ -32,15 +30,6 @@ use Rattle.exacting.specs.declared.ExactAnswer.{ExactAnswer}
 use Rattle.exacting.specs.declared.ExactAnswer.the-variants as answer
 use Rattle.exacting.specs.Exacting.{exactVerdict, exactBy, Exacted}
 use Rattle.exacting.specs.Found.{Room, foundTable}
-
--- a file that is not refused is read as what its fields hold
-fine-read : (s : List ℕ) → verdictOf s ≡ Fine → readPark s ≡ park (fileIn s)
-unfolding readPark
-fine-read s e = simp e
-
--- and holds a park of document 01
-fine-ok : (s : List ℕ) → Bytes s → verdictOf s ≡ Fine → ParkOk (parkIn (fileIn s))
-fine-ok s b fine = read-park-ok s (fileIn s) b (fine-read s fine)
 
 -- a file that is refused leaves the area as it was
 pub exact-refused : (s old : List ℕ) (place : ℕ) (v : Refusal) → verdictOf s ≡ Refused v → Exacted s old place (answer.Refused v) old
@@ -85,11 +74,6 @@ exact-one s old place b r r′ new new′ x y = (x .answer ∙ sym (y .answer), 
         x .written e (t .0) (t .1) ∙ sym (y .written e (t .0) (t .1))
     go (Refused v) e = x .kept v e ∙ sym (y .kept v e)
 
--- the numbers of nodes and links and the root, as the head and the lengths say them
-counts : (s : List ℕ) → (nodesIn s ≡ fileIn s .nodes) × (rootIn s ≡ fileIn s .root) × (linkCount s ≡ length (fileIn s .links))
-unfolding fileIn
-counts s = (refl, refl, sym (length-links s 10 (linkCount s)))
-
 -- Slices that were taken from a file that is not refused hold its park; the table that is found in them is put into the area.
 module _ (s : List ℕ) (b : Bytes s) (fine : verdictOf s ≡ Fine) (links root : ℕ) (el : links ≡ linkCount s) (er : root ≡ rootIn s)
     (ls hs cs ws ds ps ms : List ℕ) (before : Room (linkCount s) (nodesIn s) ls hs cs ws ds ps ms)
@@ -99,18 +83,8 @@ module _ (s : List ℕ) (b : Bytes s) (fine : verdictOf s ≡ Fine) (links root 
   abbrev f : ParkFile
   f = fileIn s
 
-  links-is : links ≡ length (f .links)
-  links-is = el ∙ counts s .2
-
   park-is : parkOf (length ds) root ls′ hs′ cs′ ws′ ≡ parkIn f
-  park-is =
-      let n : length ds ≡ f .nodes = after .dists ∙ counts s .0 in
-      let a : ls′ ≡ column (big 2 s) 10 6 (length (f .links)) = tl .0 ∙ ap (column (big 2 s) 10 6) (before .lows ∙ counts s .2) in
-      let h : hs′ ≡ column (big 2 s) 12 6 (length (f .links)) = tl .1 ∙ ap (column (big 2 s) 12 6) (before .highs ∙ counts s .2) in
-      let c : cs′ ≡ column (big 2 s) 14 6 (length (f .links)) = tl .2 ∙ ap (column (big 2 s) 14 6) (before .costs ∙ counts s .2) in
-      let w : ws′ ≡ column (little 8 s) (13 + 6 * length (f .links)) 8 4 = tg ∙ (λ i. column (little 8 s) (13 + 6 * links-is i) 8 (before .words i)) in
-      let r : root ≡ f .root = er ∙ counts s .1 in
-      (λ i. parkOf (n i) (r i) (a i) (h i) (c i) (w i)) ∙ park-apart s f b (fine-read s fine)
+  park-is = park-taken s fine b links el _ root _ _ _ _ ls′ hs′ cs′ ws′ (after .dists) er (before .lows, before .highs, before .costs) (before .words) tl tg
 
   is-ready : ready (length ls′) (length hs′) (length cs′) (length ds) (length ps) (length ms) ≡ true
   is-ready =
@@ -134,7 +108,7 @@ module _ (s : List ℕ) (b : Bytes s) (fine : verdictOf s ≡ Fine) (links root 
 
     long : length (foundTable (parkIn f)) ≡ nodesIn s
     unfolding parkIn
-    long = found-exact (fine-ok s b fine) .size ∙ sym (counts s .0)
+    long = found-exact (fine-ok s b fine) .size ∙ sym (nodes-here s fine)
 
     pub put-said : (old new : List ℕ) (place : ℕ) (v : Verdict)
         → (v ≡ roomFor (length s) (length old) place) × (new ≡ areaWith v (sets s (48 + 6 * links) (stateBytes (cellsOf ds′ ps′ ms′))) place old)

@@ -20,22 +20,6 @@ pub enum ExactAnswer {
     Refused(Refusal),
 }
 
-// The nodes of a checked file.
-fn nodes(file: &[u8]) -> usize
-    requires { ⌜ verdictOf (now file) ≡ Fine ⌝ }
-    ensures { λ r. ⌜ (r ≡ nodesIn (now (file .entry))) × (r ≤ 256) ⌝ }
-{
-    wire::big16(file, 3) as usize
-}
-
-// The links of a checked file.
-fn links(file: &[u8]) -> u16
-    requires { ⌜ verdictOf (now file) ≡ Fine ⌝ }
-    ensures { λ r. ⌜ (r ≡ linkCount (now (file .entry))) × (r ≤ 1024) ⌝ }
-{
-    wire::big16(file, 8) / 6
-}
-
 // Takes a checked file of as many links as are said apart, finds its table in the slices and puts the file with that table
 // into the area from a place on, or answers that there is no room for it.
 fn put_found(
@@ -75,8 +59,8 @@ fn put_exact(file: &[u8], area: &mut [u8], place: usize) -> Verdict
         ⌜ (r ≡ roomFor (length (now (file .entry))) (length old) place)
         × (now (area .exit) ≡ areaWith r (encode (withState f (foundTable (parkIn f)))) place old) ⌝ }
 {
-    let n = nodes(file);
-    let count = links(file);
+    let n = apart::nodes(file);
+    let count = apart::links(file);
     let l = count as usize;
     let root = wire::big16(file, 5);
     let mut lows = [0u16; 1024];

@@ -14,15 +14,15 @@ use Rattle.park.specs.declared.refusal.Refusal.{Refusal}
 use Rattle.park.specs.declared.answer.Verdict.{Verdict}
 use Rattle.park.specs.declared.answer.Verdict.the-variants as verdict
 use Rattle.park.specs.ParkFile.{ParkFile, parkIn}
-use Rattle.park.specs.Reading.{verdictOf, fileIn, nodesIn, rootIn, linkCount, readPark, park}
-use Rattle.park.proofs.ParkLaws.{read-park-ok}
-use Rattle.park.proofs.RecordLaws.{length-links}
+use Rattle.park.specs.Reading.{verdictOf, fileIn, nodesIn, rootIn, linkCount}
+use Rattle.park.proofs.ParkLaws.{fine-ok}
 use Rattle.slices.specs.Slices.{cellsOf, parkOf}
 use Rattle.apart.specs.Columns.{column, little}
-use Rattle.apart.proofs.ApartLaws.{park-apart, state-apart}
-use Rattle.round.specs.Table.{fits, Together, roundOf, Holds, Written}
-use Rattle.round.proofs.FitLaws.{true-fit}
-use Rattle.run.specs.Same.{sameSlices}
+use Rattle.apart.proofs.ApartLaws.{nodes-here, park-taken, state-taken}
+use Rattle.tables.specs.Fit.{fits, Together, Holds, Written}
+use Rattle.round.specs.Table.{roundOf}
+use Rattle.tables.proofs.FitLaws.{true-fit}
+use Rattle.tables.specs.Same.{sameSlices}
 use Rattle.run.specs.Run.{quiet}
 use Rattle.run.proofs.StepLaws.{held, same-held}
 use Rattle.run.proofs.RunLaws.{quiet-is}
@@ -30,11 +30,6 @@ use Rattle.judging.specs.declared.RightAnswer.{RightAnswer}
 use Rattle.judging.specs.declared.RightAnswer.the-variants.{Yes, No, Refused}
 use Rattle.judging.specs.Judging.{Judged}
 use Rattle.judging.specs.Room.{Room}
-
--- a file that is not refused is read as what its fields hold
-pub fine-read : (s : List ℕ) → verdictOf s ≡ verdict.Fine → readPark s ≡ park (fileIn s)
-unfolding readPark
-fine-read s e = simp e
 
 -- whether a round leaves the stored table alone
 abbrev pub quietIn : List ℕ → Bool
@@ -46,7 +41,7 @@ ExactIn s = Exact (parkIn (fileIn s)) (fileIn s .state)
 
 module _ (s : List ℕ) (b : Bytes s) (fine : verdictOf s ≡ verdict.Fine) where
   ok : ParkOk (parkIn (fileIn s))
-  ok = read-park-ok s (fileIn s) b (fine-read s fine)
+  ok = fine-ok s b fine
 
   quiet-exact : quietIn s ≡ true → ExactIn s
   unfolding parkIn
@@ -94,11 +89,6 @@ right-one s b r r′ j j′ = go (verdictOf s) refl
     go verdict.Fine e = by e (exact? s b e)
     go (verdict.Refused v) e = j .refused v e ∙ sym (j′ .refused v e)
 
--- the numbers of nodes and links and the root, as the head and the lengths say them
-counts : (s : List ℕ) → (nodesIn s ≡ fileIn s .nodes) × (rootIn s ≡ fileIn s .root) × (linkCount s ≡ length (fileIn s .links))
-unfolding fileIn
-counts s = (refl, refl, sym (length-links s 10 (linkCount s)))
-
 -- Slices that were taken from a file that is not refused hold its park and its table.
 module _ (s : List ℕ) (b : Bytes s) (fine : verdictOf s ≡ verdict.Fine) (links root : ℕ) (el : links ≡ linkCount s) (er : root ≡ rootIn s)
     (ls hs cs ws ds ps ms nd np nm : List ℕ) (before : Room (linkCount s) (nodesIn s) ls hs cs ws ds ps ms nd np nm) where
@@ -110,28 +100,14 @@ module _ (s : List ℕ) (b : Bytes s) (fine : verdictOf s ≡ verdict.Fine) (lin
       abbrev f : ParkFile
       f = fileIn s
 
-      links-is : links ≡ length (f .links)
-      links-is = el ∙ counts s .2
-
       nodes-is : length ds′ ≡ f .nodes
-      nodes-is = after .dists ∙ counts s .0
+      nodes-is = after .dists ∙ nodes-here s fine
 
       park-is : parkOf (length ds′) root ls′ hs′ cs′ ws′ ≡ parkIn f
-      park-is =
-          let a : ls′ ≡ column (big 2 s) 10 6 (length (f .links)) = tl .0 ∙ ap (column (big 2 s) 10 6) (before .lows ∙ counts s .2) in
-          let h : hs′ ≡ column (big 2 s) 12 6 (length (f .links)) = tl .1 ∙ ap (column (big 2 s) 12 6) (before .highs ∙ counts s .2) in
-          let c : cs′ ≡ column (big 2 s) 14 6 (length (f .links)) = tl .2 ∙ ap (column (big 2 s) 14 6) (before .costs ∙ counts s .2) in
-          let w : ws′ ≡ column (little 8 s) (13 + 6 * length (f .links)) 8 4 =
-          tg ∙ (λ i. column (little 8 s) (13 + 6 * links-is i) 8 (before .words i)) in
-          let r : root ≡ f .root = er ∙ counts s .1 in
-          (λ i. parkOf (nodes-is i) (r i) (a i) (h i) (c i) (w i)) ∙ park-apart s f b (fine-read s fine)
+      park-is = park-taken s fine b links el _ root _ _ _ _ ls′ hs′ cs′ ws′ (after .dists) er (before .lows, before .highs, before .costs) (before .words) tl tg
 
       state-is : cellsOf ds′ ps′ ms′ ≡ f .state
-      state-is =
-          let d : ds′ ≡ column (big 4 s) (48 + 6 * length (f .links)) 7 (f .nodes) = ts .0 ∙ (λ i. column (big 4 s) (48 + 6 * links-is i) 7 ((before .dists ∙ counts s .0) i)) in
-          let p : ps′ ≡ column (big 2 s) (52 + 6 * length (f .links)) 7 (f .nodes) = ts .1 ∙ (λ i. column (big 2 s) (52 + 6 * links-is i) 7 ((before .parents ∙ counts s .0) i)) in
-          let m : ms′ ≡ column (big 1 s) (54 + 6 * length (f .links)) 7 (f .nodes) = ts .2 ∙ (λ i. column (big 1 s) (54 + 6 * links-is i) 7 ((before .marks ∙ counts s .0) i)) in
-          (λ i. cellsOf (d i) (p i) (m i)) ∙ state-apart s f b (fine-read s fine)
+      state-is = state-taken s fine b links el _ _ _ ds′ ps′ ms′ (before .dists, before .parents, before .marks) ts
 
       together : Together ls′ hs′ cs′ ds′ ps′ ms′ nd np nm
       together =

@@ -22,22 +22,6 @@ pub enum RightAnswer {
     Refused(Refusal),
 }
 
-// The nodes of a checked file.
-fn nodes(file: &[u8]) -> usize
-    requires { ⌜ verdictOf (now file) ≡ Fine ⌝ }
-    ensures { λ r. ⌜ (r ≡ nodesIn (now (file .entry))) × (r ≤ 256) ⌝ }
-{
-    wire::big16(file, 3) as usize
-}
-
-// The links of a checked file.
-fn links(file: &[u8]) -> u16
-    requires { ⌜ verdictOf (now file) ≡ Fine ⌝ }
-    ensures { λ r. ⌜ (r ≡ linkCount (now (file .entry))) × (r ≤ 1024) ⌝ }
-{
-    wire::big16(file, 8) / 6
-}
-
 // Takes a checked file of as many links as are said apart and writes the round of its table into the `next` slices; whether
 // the round leaves every value as it is.
 fn is_quiet(
@@ -78,7 +62,7 @@ fn is_quiet(
         next_parents,
         next_marks,
     );
-    run::same::same(next_dists, next_parents, next_marks, dists, parents, marks)
+    tables::same::same(next_dists, next_parents, next_marks, dists, parents, marks)
 }
 
 // Whether a round leaves the table of a checked file as it is.
@@ -88,8 +72,8 @@ fn rests(file: &[u8]) -> bool
         let f : ParkFile = fileIn (now (file .entry)) in
         ⌜ r ≡ quiet (netOf (parkIn f)) (f .nodes) (f .state) ⌝ }
 {
-    let n = nodes(file);
-    let count = links(file);
+    let n = apart::nodes(file);
+    let count = apart::links(file);
     let l = count as usize;
     let root = wire::big16(file, 5);
     let mut lows = [0u16; 1024];

@@ -1,3 +1,2 @@
 pub mod MakeLaws
 pub mod FileLaws
-pub mod Cases

@@ -10,13 +10,6 @@ ghost use lib.Dec.{leb, eqb};
 ghost use Rattle.wire.specs.Big.{bytesOf};
 ghost use Rattle.making.specs.Making.{numbers, stateMade, groupMade, linksMade, fileOf};
 
-// A number of 16 bits as a count.
-fn wide(x: u16) -> usize
-    ensures { λ r. ⌜ (r ≡ x) × (r < 65536) ⌝ }
-{
-    x as usize
-}
-
 // Puts 16-bit numbers one behind the other from a place on.
 fn put_numbers(out: &mut [u8], from: usize, list: &[u16])
     requires { ⌜ from ≤ 1048576 ⌝ }
@@ -73,10 +66,10 @@ fn make_state(
         let made : List ℕ = stateMade nodes (now (dists .entry)) (now (parents .entry)) (now (marks .entry)) in
         ⌜ (now (out .exit) ≡ sets (now (out .entry)) at made) × (r ≡ at + length made) ⌝ }
 {
-    let n = wide(nodes);
+    let n = wire::wide(nodes);
     if right(n, dists.len(), parents.len(), marks.len()) {
         put_head(out, at, 4, 7 * nodes);
-        apart::put_cells(out, at + 3, dists, parents, marks);
+        storing::put_cells(out, at + 3, dists, parents, marks);
         return at + 3 + 7 * n;
     }
     put_head(out, at, 4, 65535);

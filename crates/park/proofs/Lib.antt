@@ -1,5 +1,4 @@
 pub mod VerdictLaws
-pub mod Cases
 pub mod FieldLaws
 pub mod RecordLaws
 pub mod RoundTrip

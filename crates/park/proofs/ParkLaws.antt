@@ -14,7 +14,8 @@ use Rattle.rule.specs.Settles.{ParkOk}
 use Rattle.wire.specs.Big.{Bytes}
 use Rattle.slices.specs.Group.{bitSet, memberIn}
 use Rattle.park.specs.ParkFile.{ParkFile, ParkFileOk, parkIn, LinkOk, LinksOk, keyOf}
-use Rattle.park.specs.Reading.{readPark, park}
+use Rattle.park.specs.declared.answer.Verdict.the-variants.{Fine}
+use Rattle.park.specs.Reading.{verdictOf, fileIn, readPark, park}
 use Rattle.park.proofs.RoundTrip.{read-then-encode}
 
 -- a bit that is set is below the number
@@ -67,3 +68,11 @@ park-ok f ok =
 -- a file that is read holds a park
 pub read-park-ok : (s : List ℕ) (f : ParkFile) → Bytes s → readPark s ≡ park f → ParkOk (parkIn f)
 read-park-ok s f b e = park-ok f (read-then-encode s f b e .1)
+
+-- a file that is not refused is read as what its fields hold, and holds a park of document 01
+pub fine-read : (s : List ℕ) → verdictOf s ≡ Fine → readPark s ≡ park (fileIn s)
+unfolding readPark
+fine-read s e = simp e
+
+pub fine-ok : (s : List ℕ) → Bytes s → verdictOf s ≡ Fine → ParkOk (parkIn (fileIn s))
+fine-ok s b fine = read-park-ok s (fileIn s) b (fine-read s fine)

@@ -1,4 +1,3 @@
 pub mod Refusals
 pub mod ParkFile
 pub mod Reading
-pub mod Cases

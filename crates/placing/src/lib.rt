@@ -32,6 +32,6 @@ pub fn put_with_state(
         return Verdict::Refused(r);
     }
     let end = place + file.len();
-    apart::put_state(&mut area[place..end], links, dists, parents, marks);
+    storing::put_state(&mut area[place..end], links, dists, parents, marks);
     Verdict::Fine
 }

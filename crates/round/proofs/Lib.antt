@@ -2,5 +2,4 @@ pub mod ScanLaws
 pub mod HeardLaws
 pub mod CellLaws
 pub mod RoundLaws
-pub mod FitLaws
 pub mod ParentByLaws

@@ -1,46 +1,14 @@
--- When slices belong together, and what a round leaves in them.
+-- What a round makes of the table that slices hold.
 use Prim.Native.Nat.{ℕ}
-use mathlib.Core.Path.{_≡_}
-use mathlib.Core.Bool.{Bool, cond, _&&_}
 use mathlib.Core.List.{List}
 use lib.ListN.{length}
-use lib.Dec.{eqb}
-use Rattle.rule.specs.Round.{Cell, round, netOf}
-use Rattle.slices.specs.Slices.{cellsOf, parkOf, distsOf, parentsOf, marksOf}
+use Rattle.rule.specs.Round.{Cell, newCell, at, round, netOf}
+use Rattle.slices.specs.Slices.{cellsOf, parkOf}
 
--- whether two parts are as long as n
-abbrev pub even : ℕ → ℕ → ℕ → Bool
-even n a b = eqb a n && eqb b n
-
--- Whether slices belong together: the higher ends and costs are as long as the lower ends; the parents and marks, and the three slices of the
--- second table, as long as the distances.
-abbrev pub fitting : ℕ → ℕ → ℕ → ℕ → ℕ → ℕ → ℕ → ℕ → ℕ → Bool
-fitting lows highs costs n parents marks dists′ parents′ marks′ =
-    even lows highs costs && (even n parents marks && (eqb dists′ n && even n parents′ marks′))
-
--- the same of the slices themselves
-abbrev pub fits : List ℕ → List ℕ → List ℕ → List ℕ → List ℕ → List ℕ → List ℕ → List ℕ → List ℕ → Bool
-fits ls hs cs ds ps ms ds′ ps′ ms′ =
-    fitting (length ls) (length hs) (length cs) (length ds) (length ps) (length ms) (length ds′) (length ps′) (length ms′)
-
--- the same as a fact, which the functions below the public ones require
-pub record Together (ls hs cs ds ps ms ds′ ps′ ms′ : List ℕ) : Type 0 where
-  pub links : (length hs ≡ length ls) × (length cs ≡ length ls)
-  pub table : (length ps ≡ length ds) × (length ms ≡ length ds)
-  pub second : (length ds′ ≡ length ds) × (length ps′ ≡ length ds) × (length ms′ ≡ length ds)
+-- what node i holds after one round of the park and the table that slices hold
+abbrev pub cellAfter : ℕ → List ℕ → List ℕ → List ℕ → List ℕ → List ℕ → List ℕ → List ℕ → ℕ → Cell
+cellAfter root ls hs cs ws ds ps ms i = newCell (netOf (parkOf (length ds) root ls hs cs ws)) (at (cellsOf ds ps ms)) i
 
 -- the table after one round of the park and the table that slices hold
 abbrev pub roundOf : ℕ → List ℕ → List ℕ → List ℕ → List ℕ → List ℕ → List ℕ → List ℕ → List Cell
 roundOf root ls hs cs ws ds ps ms = round (netOf (parkOf (length ds) root ls hs cs ws)) (length ds) (cellsOf ds ps ms)
-
--- three slices that hold the table t
-pub record Holds (t : List Cell) (ds ps ms : List ℕ) : Type 0 where
-  pub dists : ds ≡ distsOf t
-  pub parents : ps ≡ parentsOf t
-  pub marks : ms ≡ marksOf t
-
--- three slices that hold the table t if `fit` says so, and are as they were if not
-pub record Written (fit : Bool) (t : List Cell) (ds ps ms ds′ ps′ ms′ : List ℕ) : Type 0 where
-  pub dists : ds′ ≡ cond fit (distsOf t) ds
-  pub parents : ps′ ≡ cond fit (parentsOf t) ps
-  pub marks : ms′ ≡ cond fit (marksOf t) ms

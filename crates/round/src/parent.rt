@@ -1,13 +1,13 @@
 // The parent that the rule gives a node by given distances.
-use crate::lengths::both;
 use crate::node::pass_links;
+use tables::lengths::both;
 ghost use mathlib.Core.Path.{_≡_};
 ghost use mathlib.Core.Bool.{cond};
 ghost use lib.ListN.{length};
 ghost use Rattle.measure.specs.Measure.{ceiling};
 ghost use Rattle.slices.specs.Slices.{linksOf};
 ghost use Rattle.slices.specs.Reading.{nodeAt};
-ghost use Rattle.round.specs.Table.{even};
+ghost use Rattle.tables.specs.Fit.{even};
 ghost use Rattle.round.specs.Parent.{parentBy};
 
 // The parent of `node` in a park with this root and these links, by distances in cost units, node 1's first; 0 for none,

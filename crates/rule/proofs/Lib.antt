@@ -12,4 +12,3 @@ pub mod NetLaws
 pub mod TableLaws
 pub mod RoundsLaws
 pub mod Demand3
-pub mod Cases

@@ -1,12 +1,12 @@
 -- The tie rule `before` is total, transitive and tells senders apart, and so the chosen arc is the one before all others.
 -- Nothing else in the theory looks into `before`.
-use Prim.Native.Nat.{ℕ}
+use Prim.Native.Nat.{ℕ, _<_}
 use native.Mathlib.Omega.{arith}
 use mathlib.Core.Path.{_≡_, refl, sym, ap, _∙_, subst}
 use mathlib.Core.Logic.{_⊎_, inl, inr, ⊎-elim}
 use mathlib.Core.Bool.{Bool, true, false, cond, not}
 use mathlib.Core.List.{List, [], _∷_, List·Memᴰ, List·Memᴰ·head, List·Memᴰ·tail, List·Memᴰ·cases-cons, List·Memᴰ·not-nil}
-use borrow.Author.Tests.{leb-false}
+use borrow.Author.Tests.{leb-false, lt-leb}
 use lib.Dec.{T, leb, leb→le, le→leb}
 use Rattle.rule.specs.Round.{Arc, before, first, chosen}
 
@@ -25,6 +25,11 @@ before-trans a b c p q = omega (arith, leb→le, le→leb)
 pub before-both : (a b : Arc) → T (before a b) → T (before b a) → a .from ≡ b .from
 unfolding before
 before-both a b p q = omega (arith, leb→le)
+
+-- "the lowest-numbered neighbour": of two senders the lower number goes before, and the higher does not
+pub before-lower : (a b : Arc) → a .from < b .from → T (before a b) × (before b a ≡ false)
+unfolding before
+before-lower a b h = (omega (arith, le→leb, h), lt-leb (b .from) (a .from) h)
 
 -- what `first` finds is one of the arcs, and before each of them
 pub record First (xs : List Arc) (c : Arc) : Type 0 where

@@ -11,9 +11,10 @@ use borrow.Author.Tests.{eqb-true, eq-eqb}
 use Rattle.rule.specs.Round.{Net, Cell, round, netOf}
 use Rattle.slices.specs.Slices.{cellsOf, parkOf}
 use Rattle.run.specs.declared.Ran.{Ran}
-use Rattle.round.specs.Table.{roundOf, Holds, Written}
+use Rattle.tables.specs.Fit.{Holds, Written}
+use Rattle.round.specs.Table.{roundOf}
 use Rattle.slices.specs.Slices.{distsOf, parentsOf, marksOf}
-use Rattle.run.specs.Same.{sameSlices, sameTable}
+use Rattle.tables.specs.Same.{sameSlices, sameTable}
 use Rattle.run.specs.Run.{quiet, Outcome, runOf, runFrom, nextAfter, ranOf}
 use Rattle.slices.proofs.TableLaws.{cells-of, Slices, slices}
 use Rattle.round.proofs.RoundLaws.{round-length}

@@ -6,7 +6,7 @@ use mathlib.Core.List.{List}
 use lib.ListN.{length}
 use Rattle.rule.specs.Round.{Net, Cell, round, netOf}
 use Rattle.slices.specs.Slices.{cellsOf, parkOf}
-use Rattle.run.specs.Same.{sameTable}
+use Rattle.tables.specs.Same.{sameTable}
 use Rattle.run.specs.declared.Ran.{Ran}
 
 -- "quiet, that is whether one more round would leave every stored value as it is"

@@ -1,20 +1,20 @@
 // A run: rounds over lent slices until a given count is done or the next would change nothing. The table stays where it is lent; the three
 // slices lent beside it take the next round, and no table is copied by value.
 mod copy;
-pub mod same;
 
 use copy::copy_table;
 use measure::Rounds;
-use round::lengths::fitting;
 use round::one_round;
-use same::same;
+use tables::lengths::fitting;
+use tables::same::same;
 ghost use mathlib.Core.Path.{_≡_};
 ghost use mathlib.Core.Bool.{true, _||_};
 ghost use lib.Dec.{eqb};
 ghost use lib.ListN.{length};
 ghost use Rattle.rule.specs.Round.{netOf};
 ghost use Rattle.slices.specs.Slices.{cellsOf, parkOf};
-ghost use Rattle.round.specs.Table.{fits, Together, roundOf, Holds, Written};
+ghost use Rattle.tables.specs.Fit.{fits, Together, Holds, Written};
+ghost use Rattle.round.specs.Table.{roundOf};
 ghost use Rattle.run.specs.Run.{quiet, runFrom, nextAfter, ranOf};
 
 // What a run answers.

@@ -1,52 +1,40 @@
 -- A run over the slices that a file is taken apart into is the run of the park that the file holds.
 use Prim.Native.Nat.{ℕ, _+_, _*_, _/_, _≤_}
-use mathlib.Core.Path.{_≡_, sym, ap, ap₂, subst, _∙_}
-use mathlib.Core.Bool.{Bool, true, _||_}
+use mathlib.Core.Path.{_≡_, refl, sym, ap, ap₂, subst, _∙_}
+use mathlib.Core.Bool.{Bool, true}
 use native.Mathlib.Omega.{arith}
-use mathlib.Core.List.{List}
-use lib.ListN.{length, length-map}
+use mathlib.Core.List.{List, _++_}
+use lib.ListN.{length, take, drop, length-map}
 use lib.Seq.{sets}
-use lib.Dec.{ltb}
-use Rattle.measure.specs.Measure.{mostRounds}
 use Rattle.rule.specs.Round.{Cell, Park, netOf}
 use Rattle.wire.specs.Big.{Bytes, big}
 use Rattle.slices.specs.Slices.{cellsOf, parkOf}
 use Rattle.park.specs.declared.refusal.Refusal.{Refusal}
-use Rattle.park.specs.declared.refusal.Refusal.the-variants.{Unsettled}
 use Rattle.park.specs.declared.answer.Verdict.{Verdict}
 use Rattle.park.specs.declared.answer.Verdict.the-variants.{Fine, Refused}
 use Rattle.park.specs.ParkFile.{parkIn, stateBytes}
-use Rattle.park.specs.Reading.{unless, _then_, verdictOf, fileIn, nodesIn, rootIn, linkCount, readPark, park}
+use Rattle.park.specs.Reading.{_then_, verdictOf, fileIn, nodesIn, rootIn, linkCount}
 use Rattle.park.proofs.VerdictLaws.{then-fine}
 use Rattle.park.proofs.RoundTrip.{file-read}
 use Rattle.slices.proofs.TableLaws.{cells-of}
 use Rattle.writing.specs.Area.{roomFor, areaWith}
 use Rattle.placing.proofs.PlacingLaws.{state-file}
-use Rattle.park.proofs.RecordLaws.{length-links}
 use Rattle.apart.specs.Columns.{column, little}
-use Rattle.apart.proofs.ApartLaws.{parkColumns, stateColumns, park-apart, state-apart}
+use Rattle.apart.proofs.ApartLaws.{park-taken, state-taken}
 use Rattle.run.specs.Run.{Outcome, runOf, runFrom, ranOf}
 use Rattle.run.specs.declared.Ran.{Ran}
 use Rattle.run.proofs.StepLaws.{held}
-use Rattle.round.specs.Table.{Holds, Written}
+use Rattle.tables.specs.Fit.{fits, Together, Holds, Written}
+use Rattle.tables.proofs.FitLaws.{true-fit}
 use Rattle.running.specs.declared.RunAnswer as answer
-use Rattle.running.specs.Running.{outcomeOf, readyFor, settled, runVerdict, runFile, answerBy, runAnswer, Ends}
+use Rattle.allowing.specs.Allowing.{readyFor, settled}
+use Rattle.running.specs.Running.{outcomeOf, runVerdict, runFile, answerBy, runAnswer}
+use Rattle.running.specs.Ends.{Ends}
+use Rattle.running.proofs.LentLaws.{part, again}
 
 module _ (s : List ℕ) (b : Bytes s) (fine : verdictOf s ≡ Fine) where
-  pub was-read : readPark s ≡ park (fileIn s)
-  unfolding readPark
-  was-read = simp fine
-
-  park-is : parkColumns s (nodesIn s) (rootIn s) (linkCount s) ≡ parkIn (fileIn s)
-  unfolding fileIn
-  park-is = ap (parkColumns s (nodesIn s) (rootIn s)) (sym (length-links s 10 (linkCount s))) ∙ park-apart s (fileIn s) b was-read
-
-  state-is : stateColumns s (nodesIn s) (linkCount s) ≡ fileIn s .state
-  unfolding fileIn
-  state-is = ap (stateColumns s (nodesIn s)) (sym (length-links s 10 (linkCount s))) ∙ state-apart s (fileIn s) b was-read
-
   -- the run from the columns, each as long as the file says
-  pub run-columns : (N root l : ℕ) (ls hs cs ws ds ps ms : List ℕ) (nl nh nc nw nd np nm : ℕ) → root ≡ rootIn s → l ≡ linkCount s
+  run-columns : (N root l : ℕ) (ls hs cs ws ds ps ms : List ℕ) (nl nh nc nw nd np nm : ℕ) → root ≡ rootIn s → l ≡ linkCount s
       → (ls ≡ column (big 2 s) 10 6 nl) × (hs ≡ column (big 2 s) 12 6 nh) × (cs ≡ column (big 2 s) 14 6 nc)
       → ws ≡ column (little 8 s) (13 + 6 * l) 8 nw
       → (ds ≡ column (big 4 s) (48 + 6 * l) 7 nd) × (ps ≡ column (big 2 s) (52 + 6 * l) 7 np) × (ms ≡ column (big 1 s) (54 + 6 * l) 7 nm)
@@ -54,28 +42,60 @@ module _ (s : List ℕ) (b : Bytes s) (fine : verdictOf s ≡ Fine) where
       → length ds ≡ nodesIn s → runFrom N 0 root ls hs cs ws ds ps ms ≡ outcomeOf (fileIn s) N
   unfolding outcomeOf fileIn
   run-columns N root l ls hs cs ws ds ps ms nl nh nc nw nd np nm r k links group state a w t n =
-      let park : parkOf (nodesIn s) root ls hs cs ws ≡ parkIn (fileIn s) =
-      rw (links .0, links .1, links .2, group, a .0, a .1, a .2, w, r, k) park-is in
-      let table : cellsOf ds ps ms ≡ fileIn s .state = rw (state .0, state .1, state .2, t .0, t .1, t .2, k) state-is in
+      let park : parkOf (nodesIn s) root ls hs cs ws ≡ parkIn (fileIn s) = park-taken s fine b l k _ root _ _ _ _ ls hs cs ws refl r a w links group in
+      let table : cellsOf ds ps ms ≡ fileIn s .state = state-taken s fine b l k _ _ _ ds ps ms t state in
       ap (λ (m : ℕ). runOf (netOf (parkOf m root ls hs cs ws)) m N 0 (cellsOf ds ps ms)) n
       ∙ ap₂ (λ (p : Park) (c : List Cell). runOf (netOf p) (nodesIn s) N 0 c) park table
 
 -- what the run over slices that belong together answers and leaves
-pub ran-together : (fit : Bool) (o o′ : Outcome) (r : Ran) (ds ps ms ds′ ps′ ms′ : List ℕ) → fit ≡ true → o ≡ o′ → r ≡ ranOf fit o
+ran-together : (fit : Bool) (o o′ : Outcome) (r : Ran) (ds ps ms ds′ ps′ ms′ : List ℕ) → fit ≡ true → o ≡ o′ → r ≡ ranOf fit o
     → Written fit (o .table) ds ps ms ds′ ps′ ms′ → (r ≡ ranOf true o′) × Holds (o′ .table) ds′ ps′ ms′
 ran-together fit o o′ r ds ps ms ds′ ps′ ms′ f e a w =
     (a ∙ ap₂ ranOf f e, subst (λ (x : Outcome). Holds (x .table) ds′ ps′ ms′) e (held fit (o .table) ds ps ms ds′ ps′ ms′ f w))
 
+-- what the run over the slices that a file was taken apart into answers and leaves, where the first parts of arrays are lent
+pub ran-apart : (s : List ℕ) → Bytes s → verdictOf s ≡ Fine → (N root l : ℕ) (zl ls zh hs zc cs ws d p m ds ps ms zd zp zm : List ℕ) → root ≡ rootIn s → l ≡ linkCount s
+    → (l ≤ length zl) × (l ≤ length zh) × (l ≤ length zc)
+    → (length ls ≡ length (take l zl)) × (length hs ≡ length (take l zh)) × (length cs ≡ length (take l zc))
+    → (ls ≡ column (big 2 s) 10 6 (length (take l zl))) × (hs ≡ column (big 2 s) 12 6 (length (take l zh))) × (cs ≡ column (big 2 s) 14 6 (length (take l zc)))
+    → ws ≡ column (little 8 s) (13 + 6 * l) 8 4
+    → (length d ≡ nodesIn s) × (length p ≡ nodesIn s) × (length m ≡ nodesIn s) → (length ds ≡ length d) × (length ps ≡ length p) × (length ms ≡ length m)
+    → (ds ≡ column (big 4 s) (48 + 6 * l) 7 (length d)) × (ps ≡ column (big 2 s) (52 + 6 * l) 7 (length p)) × (ms ≡ column (big 1 s) (54 + 6 * l) 7 (length m))
+    → (length d ≤ length zd) × (length d ≤ length zp) × (length d ≤ length zm)
+    → let ls′ = take l (ls ++ drop l zl) in
+    let hs′ = take l (hs ++ drop l zh) in
+    let cs′ = take l (cs ++ drop l zc) in
+    let fit : Bool = fits ls′ hs′ cs′ ds ps ms (take (length d) zd) (take (length d) zp) (take (length d) zm) in
+    let o : Outcome = runFrom N 0 root ls′ hs′ cs′ ws ds ps ms in
+    (r : Ran) (ds′ ps′ ms′ : List ℕ) → r ≡ ranOf fit o → Written fit (o .table) ds ps ms ds′ ps′ ms′
+    → (r ≡ ranOf true (outcomeOf (fileIn s) N)) × Holds (outcomeOf (fileIn s) N .table) ds′ ps′ ms′
+ran-apart s b fine N root l zl ls zh hs zc cs ws d p m ds ps ms zd zp zm er el few kept links group size same state room r ds′ ps′ ms′ told left =
+    let low = again l ls zl (kept .0) (few .0) in
+    let high = again l hs zh (kept .1) (few .1) in
+    let cost = again l cs zc (kept .2) (few .2) in
+    let pl = part l zl (few .0) in
+    let ph = part l zh (few .1) in
+    let pc = part l zc (few .2) in
+    let together : Together (take l (ls ++ drop l zl)) (take l (hs ++ drop l zh)) (take l (cs ++ drop l zc)) ds ps ms (take (length d) zd) (take (length d) zp) (take (length d) zm) =
+    record {
+      links = (ap length high ∙ kept .1 ∙ sym ph ∙ pl ∙ sym (kept .0) ∙ sym (ap length low), ap length cost ∙ kept .2 ∙ sym pc ∙ pl ∙ sym (kept .0) ∙ sym (ap length low));
+      table = (same .1 ∙ size .1 ∙ sym (same .0 ∙ size .0), same .2 ∙ size .2 ∙ sym (same .0 ∙ size .0));
+      second = (sym (part (length d) zd (room .0)) ∙ sym (same .0), sym (part (length d) zp (room .1)) ∙ sym (same .0), sym (part (length d) zm (room .2)) ∙ sym (same .0));
+    } in
+    ran-together _ _ _ _ _ _ _ _ _ _ (true-fit _ _ _ _ _ _ _ _ _ together)
+    (run-columns s b fine N root l _ _ _ ws ds ps ms _ _ _ _ _ _ _ er el (low ∙ links .0, high ∙ links .1, cost ∙ links .2) group state (sym pl ∙ el, sym ph ∙ el, sym pc ∙ el) refl size (same .0 ∙ size .0))
+    told left
+
 -- the refusal after the rounds, from what the run over slices answers
-settled-by : (s : List ℕ) (N : ℕ) (ran : Ran) (v : Verdict) → ran ≡ ranOf true (outcomeOf (fileIn s) N) → v ≡ unless (ltb N mostRounds || ran .quiet) Unsettled
-    → settled N (outcomeOf (fileIn s) N) ≡ v
-settled-by s N ran v e f = ap (λ (x : Ran). unless (ltb N mostRounds || x .quiet) Unsettled) (sym e) ∙ sym f
+settled-by : (s : List ℕ) (N : ℕ) (ran : Ran) (v : Verdict) → ran ≡ ranOf true (outcomeOf (fileIn s) N) → v ≡ settled N (ran .quiet)
+    → settled N (outcomeOf (fileIn s) N .quiet) ≡ v
+settled-by s N ran v e f = ap (λ (x : Ran). settled N (x .quiet)) (sym e) ∙ sym f
 
 pub ends-refused : (s old : List ℕ) (N place : ℕ) (r : Refusal) (ran : Ran) (v : Verdict) → ran ≡ ranOf true (outcomeOf (fileIn s) N)
-    → v ≡ unless (ltb N mostRounds || ran .quiet) Unsettled → v ≡ Refused r → Ends (answer.the-variants.Refused r) s N old place old
+    → v ≡ settled N (ran .quiet) → v ≡ Refused r → Ends (answer.the-variants.Refused r) s N old place old
 unfolding areaWith
 ends-refused s old N place r ran v e f g =
-    let h : settled N (outcomeOf (fileIn s) N) ≡ Refused r = settled-by s N ran v e f ∙ g in
+    let h : settled N (outcomeOf (fileIn s) N .quiet) ≡ Refused r = settled-by s N ran v e f ∙ g in
     record {
       answer = ap (λ (u : Verdict). answerBy u (outcomeOf (fileIn s) N)) (sym h);
       area = ap (λ (u : Verdict). areaWith u (runFile s N) place old) (sym h);
@@ -91,18 +111,24 @@ new-file s ds ps ms N l b fine k h n =
     let m : length t ≡ nodesIn s = sym (length-map t (λ (x : Cell). x .dist)) ∙ ap length (sym (h .dists)) ∙ n in
     ap₂ (λ (j : ℕ) (x : List Cell). sets s (48 + 6 * j) (stateBytes x)) k c ∙ state-file s t b fine m
 
-pub ends-done : (s old new ds ps ms : List ℕ) (N place l : ℕ) (ran : Ran) (v w : Verdict) → Bytes s → verdictOf s ≡ Fine → l ≡ linkCount s
-    → ran ≡ ranOf true (outcomeOf (fileIn s) N) → v ≡ unless (ltb N mostRounds || ran .quiet) Unsettled → v ≡ Fine
-    → Holds (outcomeOf (fileIn s) N .table) ds ps ms → length ds ≡ nodesIn s
-    → roomFor (length s) (length old) place ≡ Fine → w ≡ roomFor (length s) (length old) place
-    → new ≡ areaWith w (sets s (48 + 6 * l) (stateBytes (cellsOf ds ps ms))) place old
+-- the table that the run left in the first n of three arrays goes into the file
+pub ends-done : (s old new zd ds zp ps zm ms : List ℕ) (N place n l : ℕ) (ran : Ran) (v w : Verdict) → Bytes s → verdictOf s ≡ Fine → n ≡ nodesIn s → l ≡ linkCount s
+    → ran ≡ ranOf true (outcomeOf (fileIn s) N) → v ≡ settled N (ran .quiet) → v ≡ Fine → Holds (outcomeOf (fileIn s) N .table) ds ps ms
+    → (length ds ≡ length (take n zd)) × (length ps ≡ length (take n zp)) × (length ms ≡ length (take n zm))
+    → (n ≤ length zd) × (n ≤ length zp) × (n ≤ length zm) → roomFor (length s) (length old) place ≡ Fine → w ≡ roomFor (length s) (length old) place
+    → new ≡ areaWith w (sets s (48 + 6 * l) (stateBytes (cellsOf (take n (ds ++ drop n zd)) (take n (ps ++ drop n zp)) (take n (ms ++ drop n zm))))) place old
     → Ends (answer.the-variants.Done (ran .rounds) (ran .quiet)) s N old place new
-ends-done s old new ds ps ms N place l ran v w b fine k e f g h n room put area =
+ends-done s old new zd ds zp ps zm ms N place n l ran v w b fine en el e f g h kept few room put area =
     let o : Outcome = outcomeOf (fileIn s) N in
-    let z : Fine ≡ settled N o = sym (settled-by s N ran v e f ∙ g) in
+    let z : Fine ≡ settled N (o .quiet) = sym (settled-by s N ran v e f ∙ g) in
+    let d = again n ds zd (kept .0) (few .0) in
+    let p = again n ps zp (kept .1) (few .1) in
+    let m = again n ms zm (kept .2) (few .2) in
+    let file = new-file s ds ps ms N l b fine el h (kept .0 ∙ sym (part n zd (few .0)) ∙ en) in
     record {
       answer = ap (λ (x : Ran). answer.the-variants.Done (x .rounds) (x .quiet)) e ∙ ap (λ (u : Verdict). answerBy u o) z;
-      area = area ∙ ap₂ (λ (u : Verdict) (x : List ℕ). areaWith u x place old) (put ∙ room ∙ z) (new-file s ds ps ms N l b fine k h n);
+      area = area ∙ (λ i. areaWith w (sets s (48 + 6 * l) (stateBytes (cellsOf (d i) (p i) (m i)))) place old)
+          ∙ ap₂ (λ (u : Verdict) (x : List ℕ). areaWith u x place old) (put ∙ room ∙ z) file;
     }
 
 -- a call that is refused before its rounds, and one that is not
@@ -121,8 +147,8 @@ unfolding readyFor
 ready-fine s N area place e = let p = then-fine _ _ e in (p .0, then-fine _ _ (p .1) .1)
 
 -- how many nodes and links a file that is not refused says
-pub nodes-room : (s : List ℕ) (x y : ℕ) → verdictOf s ≡ Fine → x ≡ big 2 s 3 → y ≡ x → y ≤ 256
-nodes-room s x y fine e f = omega (arith, file-read s fine .few)
+pub nodes-room : (s : List ℕ) (n : ℕ) → verdictOf s ≡ Fine → n ≡ nodesIn s → n ≤ 256
+nodes-room s n fine e = omega (arith, file-read s fine .few)
 
-pub links-room : (s : List ℕ) (x y : ℕ) → verdictOf s ≡ Fine → x ≡ big 2 s 8 → y ≡ x / 6 → y ≤ 1024
-links-room s x y fine e f = omega (arith, file-read s fine .links .most)
+pub links-room : (s : List ℕ) (x : ℕ) → verdictOf s ≡ Fine → x ≡ big 2 s 8 → x / 6 ≤ 1024
+links-room s x fine e = omega (arith, file-read s fine .links .most)

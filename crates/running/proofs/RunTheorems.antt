@@ -20,11 +20,10 @@ use Rattle.wire.specs.Big.{Bytes}
 use Rattle.park.specs.declared.answer.Verdict.the-variants.{Fine}
 use Rattle.park.specs.ParkFile.{parkIn, encode, withState}
 use Rattle.park.specs.Reading.{verdictOf, fileIn}
-use Rattle.park.proofs.ParkLaws.{read-park-ok}
+use Rattle.park.proofs.ParkLaws.{fine-ok}
 use Rattle.run.specs.Run.{Outcome}
 use Rattle.run.proofs.RunLaws as laws
 use Rattle.running.specs.Running.{outcomeOf, runFile}
-use Rattle.running.proofs.RunFileLaws.{was-read}
 
 div-mono : (x y m : ℕ) → 1 ≤ m → x ≤ y → x / m ≤ y / m
 div-mono x y m h l = le-div-iff-mul-le h .1 (le-trans (div-mul-le-self x m) l)
@@ -69,7 +68,7 @@ module _ (s : List ℕ) (b : Bytes s) (fine : verdictOf s ≡ Fine) (N : ℕ) wh
   o = outcomeOf (fileIn s) N
 
   ok : ParkOk p
-  ok = read-park-ok s (fileIn s) b (was-read s b fine)
+  ok = fine-ok s b fine
 
   -- a run whose table rests within the count comes to the exact table
   pub run-rests : {e : List Cell} → Exact p e → (k : ℕ) → k ≤ N → round (netOf p) (p .nodes) (rounds (netOf p) (p .nodes) k t) ≡ rounds (netOf p) (p .nodes) k t

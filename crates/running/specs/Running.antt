@@ -1,19 +1,13 @@
 -- Run of document 01: "Run with a count N from 0 to 16,777,217: do rounds until N are done or the next would change nothing."
 -- Counts are in rounds, sizes and places in bytes.
 use Prim.Native.Nat.{ℕ}
-use mathlib.Core.Path.{_≡_}
-use mathlib.Core.Bool.{_||_}
 use mathlib.Core.List.{List}
-use lib.ListN.{length}
-use lib.Dec.{leb, ltb}
-use Rattle.measure.specs.Measure.{mostRounds}
 use Rattle.rule.specs.Round.{netOf}
-use Rattle.park.specs.declared.refusal.Refusal.the-variants.{Count, Unsettled}
 use Rattle.park.specs.declared.answer.Verdict.{Verdict}
 use Rattle.park.specs.declared.answer.Verdict.the-variants.{Fine, Refused}
 use Rattle.park.specs.ParkFile.{ParkFile, parkIn, encode, withState}
-use Rattle.park.specs.Reading.{unless, _then_, verdictOf, fileIn}
-use Rattle.writing.specs.Area.{roomFor, areaWith}
+use Rattle.park.specs.Reading.{_then_, fileIn}
+use Rattle.allowing.specs.Allowing.{readyFor, settled}
 use Rattle.run.specs.Run.{Outcome, runOf}
 use Rattle.running.specs.declared.RunAnswer as answer
 
@@ -21,17 +15,9 @@ use Rattle.running.specs.declared.RunAnswer as answer
 unfoldable pub outcomeOf : ParkFile → ℕ → Outcome
 outcomeOf f N = runOf (netOf (parkIn f)) (f .nodes) N 0 (f .state)
 
--- what is told before a round is done: "N above 16,777,217" is 10, and no room for the file is 9
-unfoldable pub readyFor : List ℕ → ℕ → ℕ → ℕ → Verdict
-readyFor s N area place = verdictOf s then unless (leb N mostRounds) Count then roomFor (length s) area place
-
--- "N is 16,777,217 and the table is not quiet after those rounds" is 11
-abbrev pub settled : ℕ → Outcome → Verdict
-settled N o = unless (ltb N mostRounds || o .quiet) Unsettled
-
 -- the refusals in their order: the file's own, then 10, 9, 11
 unfoldable pub runVerdict : List ℕ → ℕ → ℕ → ℕ → Verdict
-runVerdict s N area place = readyFor s N area place then settled N (outcomeOf (fileIn s) N)
+runVerdict s N area place = readyFor s N area place then settled N (outcomeOf (fileIn s) N .quiet)
 
 -- "The new file, of the same length": the same park with the table that the run came to
 unfoldable pub runFile : List ℕ → ℕ → List ℕ
@@ -45,8 +31,3 @@ answerBy (Refused r) o = answer.the-variants.Refused r
 -- what Run answers for a file, a count and an area of so many bytes
 unfoldable pub runAnswer : List ℕ → ℕ → ℕ → ℕ → answer.RunAnswer
 runAnswer s N area place = answerBy (runVerdict s N area place) (outcomeOf (fileIn s) N)
-
--- what a run that was not refused before its rounds answers, and the area that it leaves
-pub record Ends (r : answer.RunAnswer) (s : List ℕ) (N : ℕ) (old : List ℕ) (place : ℕ) (new : List ℕ) : Type 0 where
-  pub answer : r ≡ answerBy (settled N (outcomeOf (fileIn s) N)) (outcomeOf (fileIn s) N)
-  pub area : new ≡ areaWith (settled N (outcomeOf (fileIn s) N)) (runFile s N) place old

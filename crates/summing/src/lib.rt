@@ -33,13 +33,6 @@ pub enum SummaryAnswer {
     Refused(Refusal),
 }
 
-// The 16-bit number at a place, in bytes, as a count.
-fn number_at(file: &[u8], at: usize) -> usize
-    ensures { λ r. ⌜ (r ≡ big 2 (now (file .entry)) at) × (r < 65536) ⌝ }
-{
-    wire::big16(file, at) as usize
-}
-
 // The three counts, over the words of the group set and the marks of no more nodes than a file has.
 fn count_all(words: &[u64], marks: &[u8]) -> Counts
     requires { ⌜ length (now marks) ≤ 256 ⌝ }
@@ -62,7 +55,7 @@ fn counts_over(file: &[u8], words: &mut [u64], marks: &mut [u8]) -> Counts
     ensures { λ r. ⌜ r ≡ countsOf (fileIn (now (file .entry))) ⌝ }
 {
     apart::take_group(file, wire::big16(file, 8) / 6, words);
-    apart::column8(file, 54 + number_at(file, 8), 7, marks);
+    apart::column8(file, 54 + wire::number_at(file, 8), 7, marks);
     count_all(words, marks)
 }
 
@@ -71,7 +64,7 @@ fn counts_in(file: &[u8]) -> Counts
     requires { ⌜ verdictOf (now file) ≡ Fine ⌝ }
     ensures { λ r. ⌜ r ≡ countsOf (fileIn (now (file .entry))) ⌝ }
 {
-    let nodes = number_at(file, 3);
+    let nodes = wire::number_at(file, 3);
     let mut words = [0u64; WORDS];
     let mut marks = [0u8; NODES];
     counts_over(file, &mut words, &mut marks[..nodes])

@@ -20,6 +20,13 @@ fn wide32(x: u16) -> u32
     x as u32
 }
 
+// A 16-bit number as a count, in whatever it counts.
+pub fn wide(x: u16) -> usize
+    ensures { λ r. ⌜ (r ≡ x) × (r < 65536) ⌝ }
+{
+    x as usize
+}
+
 // The byte at a place, in bytes; 0 outside the slice.
 pub fn byte_at(s: &[u8], place: usize) -> u8
     ensures { λ r. ⌜ r ≡ getD (now (s .entry)) place 0 ⌝ }
@@ -52,6 +59,13 @@ pub fn big32(s: &[u8], place: usize) -> u32
     let high = wide32(big16(s, place));
     let low = wide32(big16(s, place + 2));
     high * 65536 + low
+}
+
+// The 16-bit number at a place, in bytes, as a count.
+pub fn number_at(s: &[u8], place: usize) -> usize
+    ensures { λ r. ⌜ (r ≡ big 2 (now (s .entry)) place) × (r < 65536) ⌝ }
+{
+    wide(big16(s, place))
 }
 
 // Puts a byte at a place, in bytes.

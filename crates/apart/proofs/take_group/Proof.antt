@@ -4,8 +4,8 @@ use borrow.Author.Needs.{needs}
 use Rattle.apart.proofs.take_group.Statement.{statement}
 use Rattle.apart.proofs.take_group.Tie as tie
 
-wide16-requires : tie.Need-wide16-requires
-wide16-requires c κs = search needs
+wide-requires : tie.Need-wide-requires
+wide-requires c κs = search needs
 
 mul-words : tie.Need-mul-words
 mul-words c = search needs
@@ -20,8 +20,8 @@ same-length : tie.Need-same-length
 same-length c = search needs
 
 returns : tie.Need-returns
-returns c = rw (sym (c .before .before .before .before .wide16 .ensures .0)) (c .before .before .words .ensures)
+returns c = rw (sym (c .before .before .before .before .wide .ensures .0)) (c .before .before .words .ensures)
 
 pub take-group-spec : {M : Type 1} → statement M
 take-group-spec =
-    tie.close (tie.spec wide16-requires mul-words add-words words-requires same-length returns)
+    tie.close (tie.spec wide-requires mul-words add-words words-requires same-length returns)

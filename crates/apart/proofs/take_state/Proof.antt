@@ -4,8 +4,8 @@ use borrow.Author.Needs.{needs}
 use Rattle.apart.proofs.take_state.Statement.{statement}
 use Rattle.apart.proofs.take_state.Tie as tie
 
-wide16-requires : tie.Need-wide16-requires
-wide16-requires c κs = search needs
+wide-requires : tie.Need-wide-requires
+wide-requires c κs = search needs
 
 mul-length : tie.Need-mul-length
 mul-length c = search needs
@@ -41,13 +41,13 @@ returns : tie.Need-returns
 returns c =
     let d = c .before .before .before .before .before .before in
     let e = d .before .before .before .before in
-    rw (sym (e .before .before .wide16 .ensures .0)) ((e .column32 .ensures, d .column16 .ensures, c .before .before .column8 .ensures))
+    rw (sym (e .before .before .wide .ensures .0)) ((e .column32 .ensures, d .column16 .ensures, c .before .before .column8 .ensures))
 
 pub take-state-spec : {M : Type 1} → statement M
 take-state-spec =
     tie.close
     (tie.spec
-    wide16-requires
+    wide-requires
     mul-length
     add-column32
     column32-requires

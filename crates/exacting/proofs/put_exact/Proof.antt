@@ -1,6 +1,8 @@
 -- Each array has room for as many links, or nodes, as a checked file can have.
 use native.Mathlib.Omega.{arith}
 use lib.ListN.{length-take}
+use mathlib.Core.Path.{_∙_}
+use Rattle.apart.proofs.ApartLaws.{nodes-said, links-said}
 use borrow.Author.Needs.{needs}
 use Rattle.exacting.proofs.put_exact.Statement.{statement}
 use Rattle.exacting.proofs.put_exact.Tie as tie
@@ -60,16 +62,19 @@ put-found-requires : tie.Need-put-found-requires
 put-found-requires c κs =
     let d = c .before .before .before .before .before .before .before .before in
     let l = d .before .links in
-    let n = d .before .before .nodes in (
-      (d .before .before .before .before .before .pre, l .ensures .0, d .big16 .ensures),
+    let n = d .before .before .nodes in
+    let start = d .before .before .before .before .before in
+    let many = links-said (start .args .file .now) (start .pre) in
+    let few = nodes-said (start .args .file .now) (start .pre) in (
+      (start .pre, l .ensures .0 ∙ many, d .big16 .ensures),
       record {
-        lows = simp length-take (omega (arith, l .ensures));
-        highs = simp length-take (omega (arith, l .ensures));
-        costs = simp length-take (omega (arith, l .ensures));
+        lows = simp length-take (omega (arith, l .ensures, many));
+        highs = simp length-take (omega (arith, l .ensures, many));
+        costs = simp length-take (omega (arith, l .ensures, many));
         words = search needs;
-        dists = simp length-take (omega (arith, n .ensures));
-        parents = simp length-take (omega (arith, n .ensures));
-        marks = simp length-take (omega (arith, n .ensures));
+        dists = simp length-take (omega (arith, n .ensures, few));
+        parents = simp length-take (omega (arith, n .ensures, few));
+        marks = simp length-take (omega (arith, n .ensures, few));
       },
     )
 

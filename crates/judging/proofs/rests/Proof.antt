@@ -1,6 +1,8 @@
 -- Each array has room for as many links, or nodes, as a checked file can have.
 use native.Mathlib.Omega.{arith}
 use lib.ListN.{length-take}
+use mathlib.Core.Path.{_∙_}
+use Rattle.apart.proofs.ApartLaws.{nodes-said, links-said}
 use borrow.Author.Needs.{needs}
 use Rattle.judging.proofs.rests.Statement.{statement}
 use Rattle.judging.proofs.rests.Tie as tie
@@ -78,19 +80,22 @@ is-quiet-requires : tie.Need-is-quiet-requires
 is-quiet-requires c κs =
     let d = c .before .before .before .before .before .before .before .before .before .before in
     let l = d .before .links in
-    let n = d .before .before .nodes in (
-      (d .before .before .before .before .pre, l .ensures .0, d .big16 .ensures),
+    let n = d .before .before .nodes in
+    let start = d .before .before .before .before in
+    let many = links-said (start .args .file .now) (start .pre) in
+    let few = nodes-said (start .args .file .now) (start .pre) in (
+      (start .pre, l .ensures .0 ∙ many, d .big16 .ensures),
       record {
-        lows = simp length-take (omega (arith, l .ensures));
-        highs = simp length-take (omega (arith, l .ensures));
-        costs = simp length-take (omega (arith, l .ensures));
+        lows = simp length-take (omega (arith, l .ensures, many));
+        highs = simp length-take (omega (arith, l .ensures, many));
+        costs = simp length-take (omega (arith, l .ensures, many));
         words = search needs;
-        dists = simp length-take (omega (arith, n .ensures));
-        parents = simp length-take (omega (arith, n .ensures));
-        marks = simp length-take (omega (arith, n .ensures));
-        nextDists = simp length-take (omega (arith, n .ensures));
-        nextParents = simp length-take (omega (arith, n .ensures));
-        nextMarks = simp length-take (omega (arith, n .ensures));
+        dists = simp length-take (omega (arith, n .ensures, few));
+        parents = simp length-take (omega (arith, n .ensures, few));
+        marks = simp length-take (omega (arith, n .ensures, few));
+        nextDists = simp length-take (omega (arith, n .ensures, few));
+        nextParents = simp length-take (omega (arith, n .ensures, few));
+        nextMarks = simp length-take (omega (arith, n .ensures, few));
       },
     )
 

@@ -1,7 +1,7 @@
 -- The test decides between what the round wrote and what stood there.
 use mathlib.Core.Path.{sym, _∙_}
 use borrow.Author.Needs.{needs}
-use Rattle.round.proofs.FitLaws.{fit-true, written, unwritten}
+use Rattle.tables.proofs.FitLaws.{fit-true, written, unwritten}
 use Rattle.round.proofs.one_round.Statement.{statement}
 use Rattle.round.proofs.one_round.Tie as tie
 

@@ -1,8 +1,8 @@
 -- Up to the place `at` the new slices hold the round, and then what they held; each turn stores one node's cell.
 use Prim.Native.Nat.{_-_, _≤_}
 use native.Mathlib.Omega.{arith}
-use mathlib.Core.Path.{_≡_, refl}
-use lib.ListN.{length, length-set}
+use mathlib.Core.Path.{_≡_, refl, _∙_}
+use lib.ListN.{length}
 use borrow.Author.Needs.{needs}
 use Rattle.rule.specs.Round.{Cell}
 use Rattle.round.specs.Table.{roundOf}
@@ -13,39 +13,32 @@ use Rattle.round.proofs.write_round.Statement.{statement}
 use Rattle.round.proofs.write_round.Tie as tie
 
 abbrev Inv-loop : tie.InvT-loop
-Inv-loop root lows highs costs words dists parents marks new-dists₀ new-parents₀ new-marks₀ n at₀ new-dists new-parents new-marks at =
-    (n ≡ length dists) × (at ≤ n)
+Inv-loop root lows highs costs words dists parents marks new-dists₀ new-parents₀ new-marks₀ at₀ new-dists new-parents new-marks at =
+    (at ≤ length dists)
     × (new-dists ≡ over (distsOf (roundOf root lows highs costs words dists parents marks)) at new-dists₀)
     × (new-parents ≡ over (parentsOf (roundOf root lows highs costs words dists parents marks)) at new-parents₀)
     × (new-marks ≡ over (marksOf (roundOf root lows highs costs words dists parents marks)) at new-marks₀)
-    × (length new-dists ≡ n) × (length new-parents ≡ n) × (length new-marks ≡ n)
+    × (length new-dists ≡ length dists) × (length new-parents ≡ length dists) × (length new-marks ≡ length dists)
 
 abbrev μ-loop : tie.MeasureT-loop
-μ-loop root lows highs costs words dists parents marks new-dists₀ new-parents₀ new-marks₀ n at₀ new-dists new-parents new-marks at = n - at
+μ-loop root lows highs costs words dists parents marks new-dists₀ new-parents₀ new-marks₀ at₀ new-dists new-parents new-marks at =
+    length dists - at
+
+-- from the end of a turn to the loop's head, and from there to the entry
+abbrev head-of : tie.After-slice-known6 Inv-loop μ-loop → tie.At-loop Inv-loop μ-loop
+head-of c = c .before .before .before .before .before .before .before .before .before .before .before
+
+abbrev entry-of : tie.At-loop Inv-loop μ-loop → tie.Start Inv-loop μ-loop
+entry-of c = c .before .before .before .before .before .before .before .before .before .before .before
 
 loop-holds : tie.Need-loop-holds Inv-loop μ-loop
-loop-holds c = (refl, search needs, refl, refl, refl, search needs, search needs, search needs)
+loop-holds c = (search needs, refl, refl, refl, search needs, search needs, search needs)
 
-add-new-cell : tie.Need-add-new-cell Inv-loop μ-loop
-add-new-cell c = omega arith
-
-new-cell-requires : tie.Need-new-cell-requires Inv-loop μ-loop
-new-cell-requires c κs = search needs
-
-mul-new-dists : tie.Need-mul-new-dists Inv-loop μ-loop
-mul-new-dists c = search needs
-
-slice-write-new-dists : tie.Need-slice-write-new-dists Inv-loop μ-loop
-slice-write-new-dists c = omega arith
-
-mul-new-parents : tie.Need-mul-new-parents Inv-loop μ-loop
-mul-new-parents c = search needs
-
-slice-write-new-parents : tie.Need-slice-write-new-parents Inv-loop μ-loop
-slice-write-new-parents c = omega arith
-
-slice-write-new-marks : tie.Need-slice-write-new-marks Inv-loop μ-loop
-slice-write-new-marks c = omega arith
+write-cell-requires : tie.Need-write-cell-requires Inv-loop μ-loop
+write-cell-requires c κs =
+    let head = c .before .before .before .before in
+    let fit = entry-of head .pre in
+    (c .before .before .before .loop-test .taken, record { links = fit .links; table = fit .table; second = (head .loop .inv .4, head .loop .inv .5, head .loop .inv .6) })
 
 add-at : tie.Need-add-at Inv-loop μ-loop
 add-at c = omega arith
@@ -55,17 +48,18 @@ loop-less c = omega arith
 
 loop-again : tie.Need-loop-again Inv-loop μ-loop
 loop-again c =
-    let fit = c .before .before .before .before .before .before .before .before .before .before .before .before .before .pre .second in
-    let here = c .before .before .loop in
-    let h = c .before .loop-test .taken in (
-      refl,
+    let head = head-of c in
+    let fit = entry-of head .pre .second in
+    let here = head .loop .inv in
+    let h = c .before .before .before .before .before .before .before .before .before .before .loop-test .taken in
+    let wrote = c .before .before .before .before .before .before .write-cell .ensures in (
       omega arith,
-      part-next _ _ _ (λ (x : Cell). x .dist) _ (fit .0) _ _ (here .inv .2) h _ (c .new-cell .ensures),
-      part-next _ _ _ (λ (x : Cell). x .parent) _ (fit .1) _ _ (here .inv .3) h _ (c .new-cell .ensures),
-      part-next _ _ _ (λ (x : Cell). x .mark) _ (fit .2) _ _ (here .inv .4) h _ (c .new-cell .ensures),
-      simp length-set (here .inv .5),
-      simp length-set (here .inv .6),
-      simp length-set (here .inv .7),
+      wrote .0 ∙ part-next _ _ _ (λ (x : Cell). x .dist) _ (fit .0) _ _ (here .1) h _ refl,
+      wrote .1 ∙ part-next _ _ _ (λ (x : Cell). x .parent) _ (fit .1) _ _ (here .2) h _ refl,
+      wrote .2 ∙ part-next _ _ _ (λ (x : Cell). x .mark) _ (fit .2) _ _ (here .3) h _ refl,
+      omega (arith, here .4),
+      omega (arith, here .5),
+      omega (arith, here .6),
     )
 
 same-length : tie.Need-same-length Inv-loop μ-loop
@@ -79,13 +73,13 @@ same-length-3 c = omega arith
 
 returns : tie.Need-returns Inv-loop μ-loop
 returns c =
-    let fit = c .before .before .before .before .before .before .before .before .before .before .before .before .pre .second in
-    let here = c .before .loop in
+    let fit = entry-of (c .before) .pre .second in
+    let here = c .before .loop .inv in
     let h = c .loop-test .left in
     record {
-      dists = part-all _ _ _ (λ (x : Cell). x .dist) _ (fit .0) _ _ (here .inv .2) h;
-      parents = part-all _ _ _ (λ (x : Cell). x .parent) _ (fit .1) _ _ (here .inv .3) h;
-      marks = part-all _ _ _ (λ (x : Cell). x .mark) _ (fit .2) _ _ (here .inv .4) h;
+      dists = part-all _ _ _ (λ (x : Cell). x .dist) _ (fit .0) _ _ (here .1) h;
+      parents = part-all _ _ _ (λ (x : Cell). x .parent) _ (fit .1) _ _ (here .2) h;
+      marks = part-all _ _ _ (λ (x : Cell). x .mark) _ (fit .2) _ _ (here .3) h;
     }
 
 pub write-round-spec : {M : Type 1} → statement M
@@ -95,13 +89,7 @@ write-round-spec =
     Inv-loop
     μ-loop
     loop-holds
-    add-new-cell
-    new-cell-requires
-    mul-new-dists
-    slice-write-new-dists
-    mul-new-parents
-    slice-write-new-parents
-    slice-write-new-marks
+    write-cell-requires
     add-at
     loop-less
     loop-again

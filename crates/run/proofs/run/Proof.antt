@@ -1,7 +1,7 @@
 -- The test decides between what the run did and what stood there.
 use mathlib.Core.Path.{sym, _∙_}
 use borrow.Author.Needs.{needs}
-use Rattle.round.proofs.FitLaws.{fit-true, written, unwritten}
+use Rattle.tables.proofs.FitLaws.{fit-true, written, unwritten}
 use Rattle.run.proofs.StepLaws.{ran, not-ran}
 use Rattle.run.proofs.run.Statement.{statement}
 use Rattle.run.proofs.run.Tie as tie

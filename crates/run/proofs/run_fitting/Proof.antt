@@ -2,7 +2,7 @@
 use native.Mathlib.Omega.{arith}
 use mathlib.Core.Path.{_≡_, refl, sym, _∙_}
 use borrow.Author.Needs.{needs}
-use Rattle.round.proofs.FitLaws.{SameLengths, fit-again}
+use Rattle.tables.proofs.FitLaws.{SameLengths, fit-again}
 use Rattle.run.proofs.StepLaws.{Running, ended, ended-table, ended-next, some-left, goes-on}
 use Rattle.run.proofs.run_fitting.Statement.{statement}
 use Rattle.run.proofs.run_fitting.Tie as tie

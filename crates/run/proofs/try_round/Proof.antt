@@ -1,7 +1,7 @@
 -- The slices belong together, so the round was written; comparing the slices compares the tables.
 use mathlib.Core.Path.{_∙_}
 use borrow.Author.Needs.{needs}
-use Rattle.round.proofs.FitLaws.{true-fit}
+use Rattle.tables.proofs.FitLaws.{true-fit}
 use Rattle.run.specs.Run.{quiet}
 use Rattle.run.proofs.StepLaws.{held, same-held}
 use Rattle.run.proofs.try_round.Statement.{statement}

@@ -1,16 +1,34 @@
 -- The slices hold the columns of the file, so the run over them is the run of the file's park from its state.
-use mathlib.Core.Path.{_≡_, sym, _∙_}
-use native.Mathlib.Omega.{arith}
-use lib.ListN.{length}
-use Rattle.round.specs.Table.{Together}
-use Rattle.round.proofs.FitLaws.{true-fit}
-use Rattle.running.proofs.RunFileLaws.{run-columns, ran-together}
+use mathlib.Core.Path.{sym, _∙_}
+use Rattle.running.proofs.LentLaws.{part, room-again, part-again}
+use Rattle.running.proofs.RunFileLaws.{ran-apart}
 use borrow.Author.Needs.{needs}
 use Rattle.running.proofs.run_apart.Statement.{statement}
 use Rattle.running.proofs.run_apart.Tie as tie
 
+array-borrow-prefix-lows : tie.Need-array-borrow-prefix-lows
+array-borrow-prefix-lows c = c .before .before .before .before .pre .0 .3
+
+slice-aggregate-take-links : tie.Need-slice-aggregate-take-links
+slice-aggregate-take-links c = part _ _ (c .before .before .before .before .before .pre .0 .3)
+
+array-borrow-prefix-highs : tie.Need-array-borrow-prefix-highs
+array-borrow-prefix-highs c = c .before .before .before .before .before .pre .0 .3
+
+slice-aggregate-take-links-2 : tie.Need-slice-aggregate-take-links-2
+slice-aggregate-take-links-2 c = part _ _ (c .before .before .before .before .before .before .pre .0 .3)
+
+array-borrow-prefix-costs : tie.Need-array-borrow-prefix-costs
+array-borrow-prefix-costs c = c .before .before .before .before .before .before .pre .0 .3
+
+slice-aggregate-take-links-3 : tie.Need-slice-aggregate-take-links-3
+slice-aggregate-take-links-3 c = part _ _ (c .before .before .before .before .before .before .before .pre .0 .3)
+
 take-links-requires : tie.Need-take-links-requires
 take-links-requires c κs = search needs
+
+slice-aggregate-take-group : tie.Need-slice-aggregate-take-group
+slice-aggregate-take-group c = search needs
 
 take-group-requires : tie.Need-take-group-requires
 take-group-requires c κs = search needs
@@ -18,81 +36,119 @@ take-group-requires c κs = search needs
 take-state-requires : tie.Need-take-state-requires
 take-state-requires c κs = search needs
 
+array-share-prefix-lows : tie.Need-array-share-prefix-lows
+array-share-prefix-lows c =
+    let back = c .before .before .before .before .before .before .before .before .before .before .before .before .before .before .before in
+    room-again _ (back .before .take-links .last .1 .0) _ (back .lows2 .given) (back .before .before .before .before .before .before .before .before .before .pre .0 .3)
+
+slice-aggregate-run : tie.Need-slice-aggregate-run
+slice-aggregate-run c =
+    let back = c .before .before .before .before .before .before .before .before .before .before .before .before .before .before .before .before in
+    part-again _ (back .before .take-links .last .1 .0) _ (back .lows2 .given) (back .before .before .before .before .before .before .before .before .before .pre .0 .3)
+
+array-share-prefix-highs : tie.Need-array-share-prefix-highs
+array-share-prefix-highs c =
+    let back = c .before .before .before .before .before .before .before .before .before .before .before .before .before .before .before in
+    room-again _ (back .before .before .take-links .last .1 .1 .0) _ (back .highs2 .given) (back .before .before .before .before .before .before .before .before .before .before .pre .0 .3)
+
+slice-aggregate-run-2 : tie.Need-slice-aggregate-run-2
+slice-aggregate-run-2 c =
+    let back = c .before .before .before .before .before .before .before .before .before .before .before .before .before .before .before .before in
+    part-again _ (back .before .before .take-links .last .1 .1 .0) _ (back .highs2 .given) (back .before .before .before .before .before .before .before .before .before .before .pre .0 .3)
+
+array-share-prefix-costs : tie.Need-array-share-prefix-costs
+array-share-prefix-costs c =
+    let back = c .before .before .before .before .before .before .before .before .before .before .before .before .before .before .before in
+    room-again _ (back .before .before .before .take-links .last .1 .1 .1 .0) _ (back .costs2 .given) (back .before .before .before .before .before .before .before .before .before .before .before .pre .0 .3)
+
+slice-aggregate-run-3 : tie.Need-slice-aggregate-run-3
+slice-aggregate-run-3 c =
+    let back = c .before .before .before .before .before .before .before .before .before .before .before .before .before .before .before .before in
+    part-again _ (back .before .before .before .take-links .last .1 .1 .1 .0) _ (back .costs2 .given) (back .before .before .before .before .before .before .before .before .before .before .before .pre .0 .3)
+
+slice-aggregate-run-4 : tie.Need-slice-aggregate-run-4
+slice-aggregate-run-4 c = sym (c .before .before .before .before .before .before .before .before .before .before .before .before .before .before .before .take-group .kept .1 .1 .0)
+
+array-borrow-prefix-next-dists : tie.Need-array-borrow-prefix-next-dists
+array-borrow-prefix-next-dists c = c .before .before .before .before .before .before .before .before .before .before .before .before .before .before .before .before .before .before .before .before .before .before .before .before .before .before .before .before .before .before .before .pre .1 .3
+
+slice-aggregate-run-5 : tie.Need-slice-aggregate-run-5
+slice-aggregate-run-5 c = part _ _ (c .before .before .before .before .before .before .before .before .before .before .before .before .before .before .before .before .before .before .before .before .before .before .before .before .before .before .before .before .before .before .before .before .pre .1 .3)
+
+array-borrow-prefix-next-parents : tie.Need-array-borrow-prefix-next-parents
+array-borrow-prefix-next-parents c = c .before .before .before .before .before .before .before .before .before .before .before .before .before .before .before .before .before .before .before .before .before .before .before .before .before .before .before .before .before .before .before .before .pre .1 .3
+
+slice-aggregate-run-6 : tie.Need-slice-aggregate-run-6
+slice-aggregate-run-6 c = part _ _ (c .before .before .before .before .before .before .before .before .before .before .before .before .before .before .before .before .before .before .before .before .before .before .before .before .before .before .before .before .before .before .before .before .before .pre .1 .3)
+
+array-borrow-prefix-next-marks : tie.Need-array-borrow-prefix-next-marks
+array-borrow-prefix-next-marks c = c .before .before .before .before .before .before .before .before .before .before .before .before .before .before .before .before .before .before .before .before .before .before .before .before .before .before .before .before .before .before .before .before .before .pre .1 .3
+
+slice-aggregate-run-7 : tie.Need-slice-aggregate-run-7
+slice-aggregate-run-7 c = part _ _ (c .before .before .before .before .before .before .before .before .before .before .before .before .before .before .before .before .before .before .before .before .before .before .before .before .before .before .before .before .before .before .before .before .before .before .pre .1 .3)
+
 run-requires : tie.Need-run-requires
 run-requires c κs = search needs
 
 same-length : tie.Need-same-length
-same-length c = omega (arith, c .before .before .before .before .before .before .before .before .before .before .before .before .before .before .before .before .before .before .before .before .before .before .before .before .before .before .before .before .before .before .before .before .before .before .before .before .before .before .before .before .before .before .before .take-links .kept)
+same-length c = c .before .before .before .before .before .before .before .before .before .run .kept .1 .1 .1 .1 .1 .1 .0 ∙ c .before .before .before .before .before .before .before .before .before .before .before .before .before .before .before .before .before .before .before .before .before .before .before .before .before .before .take-state .kept .1 .1 .0
 
 same-length-2 : tie.Need-same-length-2
-same-length-2 c = omega (arith, c .before .before .before .before .before .before .before .before .before .before .before .before .before .before .before .before .before .before .before .before .before .before .before .before .before .before .before .before .before .before .before .before .before .before .before .before .before .before .before .before .before .before .before .take-links .kept)
+same-length-2 c = c .before .before .before .before .before .before .before .before .before .run .kept .1 .1 .1 .1 .1 .1 .1 .0 ∙ c .before .before .before .before .before .before .before .before .before .before .before .before .before .before .before .before .before .before .before .before .before .before .before .before .before .before .take-state .kept .1 .1 .1 .0
 
 same-length-3 : tie.Need-same-length-3
-same-length-3 c = omega (arith, c .before .before .before .before .before .before .before .before .before .before .before .before .before .before .before .before .before .before .before .before .before .before .before .before .before .before .before .before .before .before .before .before .before .before .before .before .before .before .before .before .before .before .before .take-links .kept)
-
-same-length-4 : tie.Need-same-length-4
-same-length-4 c = omega (arith, c .before .before .before .before .before .before .before .before .before .before .before .before .before .before .before .before .before .before .before .before .before .before .before .before .before .before .before .before .before .before .before .before .before .before .before .take-group .kept)
-
-same-length-5 : tie.Need-same-length-5
-same-length-5 c = search needs
-
-same-length-6 : tie.Need-same-length-6
-same-length-6 c = search needs
-
-same-length-7 : tie.Need-same-length-7
-same-length-7 c = search needs
-
-same-length-8 : tie.Need-same-length-8
-same-length-8 c = search needs
-
-same-length-9 : tie.Need-same-length-9
-same-length-9 c = search needs
-
-same-length-10 : tie.Need-same-length-10
-same-length-10 c = search needs
+same-length-3 c = c .before .before .before .before .before .before .before .before .before .run .kept .1 .1 .1 .1 .1 .1 .1 .1 .0 ∙ c .before .before .before .before .before .before .before .before .before .before .before .before .before .before .before .before .before .before .before .before .before .before .before .before .before .before .take-state .kept .1 .1 .1 .1 .0
 
 returns : tie.Need-returns
 returns c =
-    let ran = c .before .before .before .before .before .before .before .before .before .before .before .before .run in
-    let d = c .before .before .before .before .before .before .before .before .before .before .before .before .before .before .before .before .before .before .before .before .before .before .before .before .before .before .before .before .before in
+    let told = c .before .before .before .before .before .before .before .before .before in
+    let ran = told .run in
+    let d = told .before .before .before .before .before .before .before .before .before .before .before .before .before .before .before .before .before in
     let state = d .take-state in
-    let group = d .before .before .before .before .before .before .take-group in
-    let e = d .before .before .before .before .before .before .before .before .before .before .before .before .before .before in
+    let group = d .before .before .before .before .before .take-group in
+    let back = d .before .before .before .before .before .before .before in
+    let e = back .before .before .before in
     let links = e .take-links in
-    let bytes = e .before .before .before .before .before .before .before .before .before .before .before .before .before .before .shared-slice-known .given in
-    let start = e .before .before .before .before .before .before .before .before .before .before .before .before .before .before .before in
+    let bytes = e .before .before .before .before .before .before .before .shared-slice-known .given in
+    let start = e .before .before .before .before .before .before .before .before in
     let a = start .args in
     let known = start .pre .0 in
-    let fit = start .pre .1 in
-    let lows : length (links .last .1 .0) ≡ length (a .lows .now) = omega (arith, links .kept) in
-    let highs : length (links .last .1 .1 .0) ≡ length (a .highs .now) = omega (arith, links .kept) in
-    let costs : length (links .last .1 .1 .1 .0) ≡ length (a .costs .now) = omega (arith, links .kept) in
-    let dists : length (state .last .1 .1 .0) ≡ length (a .dists .now) = omega (arith, state .kept) in
-    let parents : length (state .last .1 .1 .1 .0) ≡ length (a .parents .now) = omega (arith, state .kept) in
-    let marks : length (state .last .1 .1 .1 .1 .0) ≡ length (a .marks .now) = omega (arith, state .kept) in
-    let together : Together (links .last .1 .0) (links .last .1 .1 .0) (links .last .1 .1 .1 .0) (state .last .1 .1 .0) (state .last .1 .1 .1 .0) (state .last .1 .1 .1 .1 .0) (a .next-dists .now) (a .next-parents .now) (a .next-marks .now) = record { links = (omega (arith, fit .links), omega (arith, fit .links)); table = (omega (arith, fit .table), omega (arith, fit .table)); second = (omega (arith, fit .second), omega (arith, fit .second), omega (arith, fit .second)) } in
-    let same = run-columns (a .file .now) (λ i. bytes i .fits) (known .0) (a .count .0) (a .root) (a .links) _ _ _ _ _ _ _ _ _ _ _ _ _ _ (known .1) (known .2)
-    (links .ensures) (group .ensures) (state .ensures)
-    (known .3, omega (arith, known .3, fit .links), omega (arith, known .3, fit .links)) (known .4)
-    (known .5, omega (arith, known .5, fit .table), omega (arith, known .5, fit .table)) (omega (arith, known .5)) in
-    ran-together _ _ _ _ _ _ _ _ _ _ (true-fit _ _ _ _ _ _ _ _ _ together) same (ran .ensures .0) (ran .ensures .1 .0)
+    let size = start .pre .1 in
+    ran-apart (a .file .now) (λ i. bytes i .fits) (known .0) (a .count .0) (a .root) (a .links) _ (links .last .1 .0) _ (links .last .1 .1 .0) _ (links .last .1 .1 .1 .0)
+    (group .last .1 .1 .0) (a .dists .now) (a .parents .now) (a .marks .now) (state .last .1 .1 .0) (state .last .1 .1 .1 .0) (state .last .1 .1 .1 .1 .0) _ _ _ (known .1) (known .2)
+    (known .3, known .3, known .3) (back .before .before .lows2 .given, back .before .highs2 .given, back .costs2 .given) (links .ensures) (group .ensures)
+    (size .0, size .1, size .2) (state .kept .1 .1 .0, state .kept .1 .1 .1 .0, state .kept .1 .1 .1 .1 .0) (state .ensures) (size .3, size .3, size .3)
+    (ran .result) _ _ _ (ran .ensures .0) (ran .ensures .1 .0)
 
 pub run-apart-spec : {M : Type 1} → statement M
 run-apart-spec =
     tie.close
     (tie.spec
+    array-borrow-prefix-lows
+    slice-aggregate-take-links
+    array-borrow-prefix-highs
+    slice-aggregate-take-links-2
+    array-borrow-prefix-costs
+    slice-aggregate-take-links-3
     take-links-requires
+    slice-aggregate-take-group
     take-group-requires
     take-state-requires
+    array-share-prefix-lows
+    slice-aggregate-run
+    array-share-prefix-highs
+    slice-aggregate-run-2
+    array-share-prefix-costs
+    slice-aggregate-run-3
+    slice-aggregate-run-4
+    array-borrow-prefix-next-dists
+    slice-aggregate-run-5
+    array-borrow-prefix-next-parents
+    slice-aggregate-run-6
+    array-borrow-prefix-next-marks
+    slice-aggregate-run-7
     run-requires
     same-length
     same-length-2
     same-length-3
-    same-length-4
-    same-length-5
-    same-length-6
-    same-length-7
-    same-length-8
-    same-length-9
-    same-length-10
     returns)

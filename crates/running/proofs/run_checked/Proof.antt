@@ -1,12 +1,10 @@
--- The arrays are as long as the largest park needs, so a part of each is as long as the file says.
-use native.Mathlib.Omega.{arith}
-use Prim.Native.Nat.{ℕ, _/_}
-use mathlib.Core.Path.{_≡_, refl, ap, _∙_}
+-- The arrays are as long as the largest park needs, so a part of each is as long as the file says; the run's table is left there, and
+-- its bytes in the file are the new file.
+use Prim.Native.Nat.{ℕ, _/_, _≤_}
+use mathlib.Core.Path.{sym, ap, subst, _∙_}
 use mathlib.Core.List.{List}
-use lib.ListN.{length-take}
-use lib.Seq.{length-take-le}
-use Rattle.park.specs.Reading.{nodesIn, linkCount}
-use Rattle.running.proofs.RunFileLaws.{nodes-room, links-room}
+use Rattle.running.proofs.LentLaws.{part, room-again, part-again}
+use Rattle.running.proofs.RunFileLaws.{nodes-room, links-room, ends-refused, ends-done}
 use borrow.Author.Needs.{needs}
 use Rattle.running.proofs.run_checked.Statement.{statement}
 use Rattle.running.proofs.run_checked.Tie as tie
@@ -14,8 +12,8 @@ use Rattle.running.proofs.run_checked.Tie as tie
 big16-requires : tie.Need-big16-requires
 big16-requires c κs = search needs
 
-wide-requires : tie.Need-wide-requires
-wide-requires c κs = search needs
+cast-n : tie.Need-cast-n
+cast-n c = search needs
 
 big16-requires-2 : tie.Need-big16-requires-2
 big16-requires-2 c κs = search needs
@@ -23,115 +21,136 @@ big16-requires-2 c κs = search needs
 big16-requires-3 : tie.Need-big16-requires-3
 big16-requires-3 c κs = search needs
 
-wide-requires-2 : tie.Need-wide-requires-2
-wide-requires-2 c κs = search needs
-
-array-borrow-prefix-lows : tie.Need-array-borrow-prefix-lows
-array-borrow-prefix-lows c = omega (arith, links-room (c .before .before .before .before .before .before .before .args .file .now) _ _ (c .before .before .before .before .before .before .before .pre .0) (c .before .big163 .ensures) (c .wide2 .ensures .0))
-
-slice-aggregate-run-lent : tie.Need-slice-aggregate-run-lent
-slice-aggregate-run-lent c = simp length-take (omega (arith, links-room (c .before .before .before .before .before .before .before .before .args .file .now) _ _ (c .before .before .before .before .before .before .before .before .pre .0) (c .before .before .big163 .ensures) (c .before .wide2 .ensures .0)))
-
-array-borrow-prefix-highs : tie.Need-array-borrow-prefix-highs
-array-borrow-prefix-highs c = omega (arith, links-room (c .before .before .before .before .before .before .before .before .args .file .now) _ _ (c .before .before .before .before .before .before .before .before .pre .0) (c .before .before .big163 .ensures) (c .before .wide2 .ensures .0))
-
-slice-aggregate-run-lent-2 : tie.Need-slice-aggregate-run-lent-2
-slice-aggregate-run-lent-2 c = simp length-take (omega (arith, links-room (c .before .before .before .before .before .before .before .before .before .args .file .now) _ _ (c .before .before .before .before .before .before .before .before .before .pre .0) (c .before .before .before .big163 .ensures) (c .before .before .wide2 .ensures .0)))
-
-array-borrow-prefix-costs : tie.Need-array-borrow-prefix-costs
-array-borrow-prefix-costs c = omega (arith, links-room (c .before .before .before .before .before .before .before .before .before .args .file .now) _ _ (c .before .before .before .before .before .before .before .before .before .pre .0) (c .before .before .before .big163 .ensures) (c .before .before .wide2 .ensures .0))
-
-slice-aggregate-run-lent-3 : tie.Need-slice-aggregate-run-lent-3
-slice-aggregate-run-lent-3 c = simp length-take (omega (arith, links-room (c .before .before .before .before .before .before .before .before .before .before .args .file .now) _ _ (c .before .before .before .before .before .before .before .before .before .before .pre .0) (c .before .before .before .before .big163 .ensures) (c .before .before .before .wide2 .ensures .0)))
-
-slice-aggregate-run-lent-4 : tie.Need-slice-aggregate-run-lent-4
-slice-aggregate-run-lent-4 c = search needs
-
 array-borrow-prefix-dists : tie.Need-array-borrow-prefix-dists
-array-borrow-prefix-dists c = omega (arith, nodes-room (c .before .before .before .before .before .before .before .before .before .before .before .args .file .now) _ _ (c .before .before .before .before .before .before .before .before .before .before .before .pre .0) (c .before .before .before .before .before .before .before .before .big16 .ensures) (c .before .before .before .before .before .before .before .wide .ensures .0))
+array-borrow-prefix-dists c = let n = c .before .before in nodes-room _ _ (n .before .before .before .pre .0) (n .big16 .ensures)
 
-slice-aggregate-run-lent-5 : tie.Need-slice-aggregate-run-lent-5
-slice-aggregate-run-lent-5 c = simp length-take (omega (arith, nodes-room (c .before .before .before .before .before .before .before .before .before .before .before .before .args .file .now) _ _ (c .before .before .before .before .before .before .before .before .before .before .before .before .pre .0) (c .before .before .before .before .before .before .before .before .before .big16 .ensures) (c .before .before .before .before .before .before .before .before .wide .ensures .0)))
+slice-aggregate-run-apart : tie.Need-slice-aggregate-run-apart
+slice-aggregate-run-apart c = let n = c .before .before .before in part _ _ (nodes-room _ _ (n .before .before .before .pre .0) (n .big16 .ensures))
 
 array-borrow-prefix-parents : tie.Need-array-borrow-prefix-parents
-array-borrow-prefix-parents c = omega (arith, nodes-room (c .before .before .before .before .before .before .before .before .before .before .before .before .args .file .now) _ _ (c .before .before .before .before .before .before .before .before .before .before .before .before .pre .0) (c .before .before .before .before .before .before .before .before .before .big16 .ensures) (c .before .before .before .before .before .before .before .before .wide .ensures .0))
+array-borrow-prefix-parents c = let n = c .before .before .before in nodes-room _ _ (n .before .before .before .pre .0) (n .big16 .ensures)
 
-slice-aggregate-run-lent-6 : tie.Need-slice-aggregate-run-lent-6
-slice-aggregate-run-lent-6 c = simp length-take (omega (arith, nodes-room (c .before .before .before .before .before .before .before .before .before .before .before .before .before .args .file .now) _ _ (c .before .before .before .before .before .before .before .before .before .before .before .before .before .pre .0) (c .before .before .before .before .before .before .before .before .before .before .big16 .ensures) (c .before .before .before .before .before .before .before .before .before .wide .ensures .0)))
+slice-aggregate-run-apart-2 : tie.Need-slice-aggregate-run-apart-2
+slice-aggregate-run-apart-2 c = let n = c .before .before .before .before in part _ _ (nodes-room _ _ (n .before .before .before .pre .0) (n .big16 .ensures))
 
 array-borrow-prefix-marks : tie.Need-array-borrow-prefix-marks
-array-borrow-prefix-marks c = omega (arith, nodes-room (c .before .before .before .before .before .before .before .before .before .before .before .before .before .args .file .now) _ _ (c .before .before .before .before .before .before .before .before .before .before .before .before .before .pre .0) (c .before .before .before .before .before .before .before .before .before .before .big16 .ensures) (c .before .before .before .before .before .before .before .before .before .wide .ensures .0))
+array-borrow-prefix-marks c = let n = c .before .before .before .before in nodes-room _ _ (n .before .before .before .pre .0) (n .big16 .ensures)
 
-slice-aggregate-run-lent-7 : tie.Need-slice-aggregate-run-lent-7
-slice-aggregate-run-lent-7 c = simp length-take (omega (arith, nodes-room (c .before .before .before .before .before .before .before .before .before .before .before .before .before .before .args .file .now) _ _ (c .before .before .before .before .before .before .before .before .before .before .before .before .before .before .pre .0) (c .before .before .before .before .before .before .before .before .before .before .before .big16 .ensures) (c .before .before .before .before .before .before .before .before .before .before .wide .ensures .0)))
+slice-aggregate-run-apart-3 : tie.Need-slice-aggregate-run-apart-3
+slice-aggregate-run-apart-3 c = let n = c .before .before .before .before .before in part _ _ (nodes-room _ _ (n .before .before .before .pre .0) (n .big16 .ensures))
 
-array-borrow-prefix-next-dists : tie.Need-array-borrow-prefix-next-dists
-array-borrow-prefix-next-dists c = omega (arith, nodes-room (c .before .before .before .before .before .before .before .before .before .before .before .before .before .before .args .file .now) _ _ (c .before .before .before .before .before .before .before .before .before .before .before .before .before .before .pre .0) (c .before .before .before .before .before .before .before .before .before .before .before .big16 .ensures) (c .before .before .before .before .before .before .before .before .before .before .wide .ensures .0))
-
-slice-aggregate-run-lent-8 : tie.Need-slice-aggregate-run-lent-8
-slice-aggregate-run-lent-8 c = simp length-take (omega (arith, nodes-room (c .before .before .before .before .before .before .before .before .before .before .before .before .before .before .before .args .file .now) _ _ (c .before .before .before .before .before .before .before .before .before .before .before .before .before .before .before .pre .0) (c .before .before .before .before .before .before .before .before .before .before .before .before .big16 .ensures) (c .before .before .before .before .before .before .before .before .before .before .before .wide .ensures .0)))
-
-array-borrow-prefix-next-parents : tie.Need-array-borrow-prefix-next-parents
-array-borrow-prefix-next-parents c = omega (arith, nodes-room (c .before .before .before .before .before .before .before .before .before .before .before .before .before .before .before .args .file .now) _ _ (c .before .before .before .before .before .before .before .before .before .before .before .before .before .before .before .pre .0) (c .before .before .before .before .before .before .before .before .before .before .before .before .big16 .ensures) (c .before .before .before .before .before .before .before .before .before .before .before .wide .ensures .0))
-
-slice-aggregate-run-lent-9 : tie.Need-slice-aggregate-run-lent-9
-slice-aggregate-run-lent-9 c = simp length-take (omega (arith, nodes-room (c .before .before .before .before .before .before .before .before .before .before .before .before .before .before .before .before .args .file .now) _ _ (c .before .before .before .before .before .before .before .before .before .before .before .before .before .before .before .before .pre .0) (c .before .before .before .before .before .before .before .before .before .before .before .before .before .big16 .ensures) (c .before .before .before .before .before .before .before .before .before .before .before .before .wide .ensures .0)))
-
-array-borrow-prefix-next-marks : tie.Need-array-borrow-prefix-next-marks
-array-borrow-prefix-next-marks c = omega (arith, nodes-room (c .before .before .before .before .before .before .before .before .before .before .before .before .before .before .before .before .args .file .now) _ _ (c .before .before .before .before .before .before .before .before .before .before .before .before .before .before .before .before .pre .0) (c .before .before .before .before .before .before .before .before .before .before .before .before .before .big16 .ensures) (c .before .before .before .before .before .before .before .before .before .before .before .before .wide .ensures .0))
-
-slice-aggregate-run-lent-10 : tie.Need-slice-aggregate-run-lent-10
-slice-aggregate-run-lent-10 c = simp length-take (omega (arith, nodes-room (c .before .before .before .before .before .before .before .before .before .before .before .before .before .before .before .before .before .args .file .now) _ _ (c .before .before .before .before .before .before .before .before .before .before .before .before .before .before .before .before .before .pre .0) (c .before .before .before .before .before .before .before .before .before .before .before .before .before .before .big16 .ensures) (c .before .before .before .before .before .before .before .before .before .before .before .before .before .wide .ensures .0)))
-
-run-lent-requires : tie.Need-run-lent-requires
-run-lent-requires c κs =
-    let w = c .before .before .before .before .before .before .before .before .before .before .before in
-    let links = w .before .big163 in
-    let nodes = w .before .before .before .before .big16 in
-    let start = w .before .before .before .before .before .before .before in
+run-apart-requires : tie.Need-run-apart-requires
+run-apart-requires c κs =
+    let links = c .before .before .before .big163 in
+    let n = c .before .before .before .before .before in
+    let start = n .before .before .before in
     let s : List ℕ = start .args .file .now in
-    let many : w .wide2 .result ≡ linkCount s = w .wide2 .ensures .0 ∙ ap (λ (x : ℕ). x / 6) (links .ensures) in
-    let few : w .before .before .before .wide .result ≡ nodesIn s = w .before .before .before .wide .ensures .0 ∙ nodes .ensures in
-    let most = links-room s _ _ (start .pre .0) (links .ensures) (w .wide2 .ensures .0) in
-    let most-nodes = nodes-room s _ _ (start .pre .0) (nodes .ensures) (w .before .before .before .wide .ensures .0) in (
-      (start .pre .0, w .before .before .big162 .ensures, ap (λ (x : ℕ). x / 6) (links .ensures), length-take-le _ _ most ∙ many, refl, length-take-le _ _ most-nodes ∙ few),
-      (record { links = (refl, refl); table = (refl, refl); second = (refl, refl, refl) }, start .pre .1),
+    let fine = start .pre .0 in
+    let few = nodes-room s _ fine (n .big16 .ensures) in (
+      (fine, c .before .before .before .before .big162 .ensures, ap (λ (x : ℕ). x / 6) (links .ensures), links-room s _ fine (links .ensures)),
+      (sym (part _ _ few) ∙ n .big16 .ensures, sym (part _ _ few) ∙ n .big16 .ensures, sym (part _ _ few) ∙ n .big16 .ensures, subst (λ (k : ℕ). k ≤ 256) (part _ _ few) few),
     )
+
+unsettled-requires : tie.Need-unsettled-requires
+unsettled-requires c κs = search needs
+
+enum-known-found : tie.Need-enum-known-found
+enum-known-found c = search needs
+
+returns : tie.Need-returns
+returns c =
+    let told = c .before .before .before .unsettled in
+    let ran = c .before .before .before .before .before .before .before .run-apart in
+    let a = c .before .before .before .before .before .before .before .before .before .before .before .before .before .before .before .before .args in
+    ends-refused (a .file .now) (a .area .now) (a .count .0) (a .place) _ (ran .result) (told .result) (ran .ensures .0) (told .ensures) (c .before .found .given .1)
+
+enum-told : tie.Need-enum-told
+enum-told c = search needs
+
+array-share-prefix-dists : tie.Need-array-share-prefix-dists
+array-share-prefix-dists c =
+    let r = c .before .before .before .before .before .before in
+    let n = r .before .before .before .before .before .before in
+    room-again _ (r .run-apart .last .1 .1 .1 .1 .0) _ (c .before .before .before .before .before .dists2 .given) (nodes-room _ _ (n .before .before .before .pre .0) (n .big16 .ensures))
+
+slice-aggregate-put-with-state : tie.Need-slice-aggregate-put-with-state
+slice-aggregate-put-with-state c =
+    let r = c .before .before .before .before .before .before .before in
+    let n = r .before .before .before .before .before .before in
+    part-again _ (r .run-apart .last .1 .1 .1 .1 .0) _ (c .before .before .before .before .before .before .dists2 .given) (nodes-room _ _ (n .before .before .before .pre .0) (n .big16 .ensures))
+
+array-share-prefix-parents : tie.Need-array-share-prefix-parents
+array-share-prefix-parents c =
+    let r = c .before .before .before .before .before .before .before in
+    let n = r .before .before .before .before .before .before in
+    room-again _ (r .run-apart .last .1 .1 .1 .1 .1 .0) _ (c .before .before .before .before .before .parents2 .given) (nodes-room _ _ (n .before .before .before .pre .0) (n .big16 .ensures))
+
+slice-aggregate-put-with-state-2 : tie.Need-slice-aggregate-put-with-state-2
+slice-aggregate-put-with-state-2 c =
+    let r = c .before .before .before .before .before .before .before .before in
+    let n = r .before .before .before .before .before .before in
+    part-again _ (r .run-apart .last .1 .1 .1 .1 .1 .0) _ (c .before .before .before .before .before .before .parents2 .given) (nodes-room _ _ (n .before .before .before .pre .0) (n .big16 .ensures))
+
+array-share-prefix-marks : tie.Need-array-share-prefix-marks
+array-share-prefix-marks c =
+    let r = c .before .before .before .before .before .before .before .before in
+    let n = r .before .before .before .before .before .before in
+    room-again _ (r .run-apart .last .1 .1 .1 .1 .1 .1 .0) _ (c .before .before .before .before .before .marks2 .given) (nodes-room _ _ (n .before .before .before .pre .0) (n .big16 .ensures))
+
+slice-aggregate-put-with-state-3 : tie.Need-slice-aggregate-put-with-state-3
+slice-aggregate-put-with-state-3 c =
+    let r = c .before .before .before .before .before .before .before .before .before in
+    let n = r .before .before .before .before .before .before in
+    part-again _ (r .run-apart .last .1 .1 .1 .1 .1 .1 .0) _ (c .before .before .before .before .before .before .marks2 .given) (nodes-room _ _ (n .before .before .before .pre .0) (n .big16 .ensures))
+
+put-with-state-requires : tie.Need-put-with-state-requires
+put-with-state-requires c κs = search needs
 
 same-length : tie.Need-same-length
 same-length c = search needs
 
-returns : tie.Need-returns
-returns c = search needs
+returns-2 : tie.Need-returns-2
+returns-2 c =
+    let put = c .before .before .before .put-with-state in
+    let told = c .before .before .before .before .before .before .before .before .before .before .unsettled in
+    let back = c .before .before .before .before .before .before .before .before .before .before .before in
+    let ran = back .before .before .before .run-apart in
+    let links = back .before .before .before .before .before .before .before .big163 in
+    let n = back .before .before .before .before .before .before .before .before .before in
+    let start = n .before .before .before in
+    let a = start .args in
+    let fine = start .pre .0 in
+    let few = nodes-room (a .file .now) _ fine (n .big16 .ensures) in
+    ends-done (a .file .now) (a .area .now) (put .last .1 .1 .1 .1 .1 .0) _ (ran .last .1 .1 .1 .1 .0) _ (ran .last .1 .1 .1 .1 .1 .0) _ (ran .last .1 .1 .1 .1 .1 .1 .0)
+    (a .count .0) (a .place) (n .big16 .result) (links .result / 6) (ran .result) (told .result) (put .result) (λ i. n .before .before .shared-slice-known .given i .fits) fine
+    (n .big16 .ensures) (ap (λ (x : ℕ). x / 6) (links .ensures)) (ran .ensures .0) (told .ensures) (c .before .before .before .before .before .before .before .before .enum-told .given .1) (ran .ensures .1)
+    (back .before .before .dists2 .given, back .before .parents2 .given, back .marks2 .given) (few, few, few) (start .pre .1) (put .ensures .0) (put .ensures .1)
 
 pub run-checked-spec : {M : Type 1} → statement M
 run-checked-spec =
     tie.close
     (tie.spec
     big16-requires
-    wide-requires
+    cast-n
     big16-requires-2
     big16-requires-3
-    wide-requires-2
-    array-borrow-prefix-lows
-    slice-aggregate-run-lent
-    array-borrow-prefix-highs
-    slice-aggregate-run-lent-2
-    array-borrow-prefix-costs
-    slice-aggregate-run-lent-3
-    slice-aggregate-run-lent-4
     array-borrow-prefix-dists
-    slice-aggregate-run-lent-5
+    slice-aggregate-run-apart
     array-borrow-prefix-parents
-    slice-aggregate-run-lent-6
+    slice-aggregate-run-apart-2
     array-borrow-prefix-marks
-    slice-aggregate-run-lent-7
-    array-borrow-prefix-next-dists
-    slice-aggregate-run-lent-8
-    array-borrow-prefix-next-parents
-    slice-aggregate-run-lent-9
-    array-borrow-prefix-next-marks
-    slice-aggregate-run-lent-10
-    run-lent-requires
+    slice-aggregate-run-apart-3
+    run-apart-requires
+    unsettled-requires
+    enum-known-found
+    returns
+    enum-told
+    array-share-prefix-dists
+    slice-aggregate-put-with-state
+    array-share-prefix-parents
+    slice-aggregate-put-with-state-2
+    array-share-prefix-marks
+    slice-aggregate-put-with-state-3
+    put-with-state-requires
     same-length
-    returns)
+    returns-2)

@@ -5,7 +5,7 @@ use lib.ListN.{length}
 use Rattle.measure.specs.Measure.{ceiling}
 use Rattle.slices.specs.Slices.{linksOf}
 use Rattle.slices.specs.Reading.{nodeAt}
-use Rattle.round.proofs.FitLaws.{even-true}
+use Rattle.tables.proofs.FitLaws.{even-true}
 use Rattle.round.proofs.ParentByLaws.{by-even, by-odd, by-root, by-search}
 use Rattle.round.proofs.parent.parent_by.Statement.{statement}
 use Rattle.round.proofs.parent.parent_by.Tie as tie

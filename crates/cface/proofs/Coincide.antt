@@ -1,0 +1,33 @@
+-- Any two outcomes that Exact's or Right's contract for C allows coincide, in all eight numbers and every byte of the area. The other
+-- five contracts are equations, and say one outcome as they stand.
+use Prim.Native.Nat.{ℕ}
+use mathlib.Core.Path.{_≡_, sym, ap, _∙_}
+use mathlib.Core.List.{List}
+use lib.Seq.{sets}
+use Rattle.wire.specs.Big.{Bytes}
+use Rattle.exacting.specs.declared.ExactAnswer.{ExactAnswer}
+use Rattle.exacting.specs.Exacting.{Exacted}
+use Rattle.exacting.proofs.ExactingLaws.{exact-one}
+use Rattle.judging.specs.declared.RightAnswer.{RightAnswer}
+use Rattle.judging.specs.Judging.{Judged}
+use Rattle.judging.proofs.JudgeLaws.{right-one}
+use Rattle.chandvreksh.specs.Values.{exactValues, rightValues}
+
+-- what `chandvreksh_exact` ensures of a file, an area and a place: `was` and `is` are the answer's numbers before and after
+abbrev pub ExactAllows : List ℕ → List ℕ → ℕ → List ℕ → List ℕ → List ℕ → Type 0
+ExactAllows s old place new was is =
+    (found : ExactAnswer) × Exacted s old place found new × (is ≡ sets was 0 (exactValues found))
+
+pub exact-coincides : (s old : List ℕ) (place : ℕ) (was : List ℕ) → Bytes s → (new new′ is is′ : List ℕ)
+    → ExactAllows s old place new was is → ExactAllows s old place new′ was is′ → (is ≡ is′) × (new ≡ new′)
+exact-coincides s old place was b new new′ is is′ (r, x, e) (r′, x′, e′) =
+    let same : (r ≡ r′) × (new ≡ new′) = exact-one s old place b r r′ new new′ x x′ in
+    (e ∙ ap (λ (f : ExactAnswer). sets was 0 (exactValues f)) (same .0) ∙ sym e′, same .1)
+
+-- what `chandvreksh_right` ensures of a file
+abbrev pub RightAllows : List ℕ → List ℕ → List ℕ → Type 0
+RightAllows s was is = (found : RightAnswer) × Judged s found × (is ≡ sets was 0 (rightValues found))
+
+pub right-coincides : (s was : List ℕ) → Bytes s → (is is′ : List ℕ) → RightAllows s was is → RightAllows s was is′ → is ≡ is′
+right-coincides s was b is is′ (r, j, e) (r′, j′, e′) =
+    e ∙ ap (λ (f : RightAnswer). sets was 0 (rightValues f)) (right-one s b r r′ j j′) ∙ sym e′

@@ -1,0 +1,43 @@
+-- Three stores one behind the other are one.
+use Rattle.storing.proofs.StateLaws.{cell-put}
+use borrow.Author.Needs.{needs}
+use Rattle.storing.proofs.put_cell.Statement.{statement}
+use Rattle.storing.proofs.put_cell.Tie as tie
+
+put32-requires : tie.Need-put32-requires
+put32-requires c κs = search needs
+
+add-put16 : tie.Need-add-put16
+add-put16 c = search needs
+
+put16-requires : tie.Need-put16-requires
+put16-requires c κs = search needs
+
+add-put-byte : tie.Need-add-put-byte
+add-put-byte c = search needs
+
+put-byte-requires : tie.Need-put-byte-requires
+put-byte-requires c κs = search needs
+
+same-length : tie.Need-same-length
+same-length c = search needs
+
+returns : tie.Need-returns
+returns c =
+    let d = c .before .before .before .before .before .before in
+    let e = d .before .before .before .before in
+    let a = e .before .before .before .args in
+    let p = cell-put (a .area .now) (a .at) (a .dist) (a .parent) (a .mark) in
+    cc (p, c .before .before .put-byte .ensures, d .put16 .ensures, e .put32 .ensures)
+
+pub put-cell-spec : {M : Type 1} → statement M
+put-cell-spec =
+    tie.close
+    (tie.spec
+    put32-requires
+    add-put16
+    put16-requires
+    add-put-byte
+    put-byte-requires
+    same-length
+    returns)
