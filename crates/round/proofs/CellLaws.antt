@@ -11,9 +11,10 @@ use Rattle.rule.specs.Round.{Net, Cell, at, giving, chosen, asked, newDist, par
 use Rattle.rule.proofs.OnePassLaws.{kept-from}
 use Rattle.slices.specs.Group.{memberIn}
 use Rattle.slices.specs.Slices.{linksOf, cellsOf, parkOf}
-use Rattle.round.specs.declared.node.Best.{Best}
+use Rattle.hearing.specs.declared.Best.{Best}
 use Rattle.slices.specs.Reading.{nodeAt}
-use Rattle.round.specs.Scan.{unheard, keptArc, passedAll}
+use Rattle.hearing.specs.Hear.{unheard, keptArc}
+use Rattle.round.specs.Scan.{passedAll}
 use Rattle.round.proofs.HeardLaws.{Heard, heard}
 use Rattle.slices.proofs.TableLaws.{Slices, slices, part-at}
 

@@ -11,9 +11,10 @@ use lib.Dec.{eqb}
 use Rattle.measure.specs.Measure.{ceiling}
 use Rattle.rule.specs.Round.{Arc, Link, through, before, asked, arcsOf}
 use Rattle.rule.proofs.OnePassLaws.{Kept, kept-none, kept-less, kept-equal, kept-more, kept-ceiling}
-use Rattle.round.specs.declared.node.Best.{Best}
-use Rattle.round.specs.Scan.{unheard, keptArc, takes, kept, asks, withAsked, hear, passed, passedAll}
-use Rattle.round.proofs.ScanLaws.{takes-less, takes-more, takes-ceiling, takes-tie}
+use Rattle.hearing.specs.declared.Best.{Best}
+use Rattle.hearing.specs.Hear.{unheard, keptArc, takes, kept, asks, withAsked, hear, passed}
+use Rattle.round.specs.Scan.{passedAll}
+use Rattle.hearing.proofs.HearLaws.{takes-less, takes-more, takes-ceiling, takes-tie}
 
 -- what node i knows after the arcs xs
 pub record Heard (D P M : ℕ → ℕ) (i : ℕ) (xs : List Arc) (b : Best) : Type 0 where

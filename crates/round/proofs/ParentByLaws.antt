@@ -10,8 +10,9 @@ use Rattle.measure.specs.Measure.{ceiling}
 use Rattle.rule.specs.Round.{Link, least, giving, chosen, newDist, parentAt, arcsOf}
 use Rattle.rule.proofs.OnePassLaws.{kept-from}
 use Rattle.rule.proofs.ParentLaws.{parent-none}
-use Rattle.round.specs.declared.node.Best.{Best}
-use Rattle.round.specs.Scan.{unheard, keptArc, passedAll}
+use Rattle.hearing.specs.declared.Best.{Best}
+use Rattle.hearing.specs.Hear.{unheard, keptArc}
+use Rattle.round.specs.Scan.{passedAll}
 use Rattle.round.specs.Parent.{bareNet, parentBy}
 use Rattle.round.proofs.HeardLaws.{heard}
 

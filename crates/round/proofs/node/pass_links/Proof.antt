@@ -7,7 +7,8 @@ use borrow.Author.Needs.{needs}
 use Rattle.measure.specs.Measure.{ceiling}
 use Rattle.slices.specs.Slices.{linksOf}
 use Rattle.slices.specs.Reading.{nodeAt, linkAt}
-use Rattle.round.specs.Scan.{unheard, passedAll}
+use Rattle.hearing.specs.Hear.{unheard}
+use Rattle.round.specs.Scan.{passedAll}
 use Rattle.round.proofs.ScanLaws.{untouched, passed-next, passed-end}
 use Rattle.round.proofs.node.pass_links.Statement.{statement}
 use Rattle.round.proofs.node.pass_links.Tie as tie
@@ -27,23 +28,29 @@ loop-holds c = (search needs, refl)
 add-at : tie.Need-add-at Inv-loop μ-loop
 add-at c = omega arith
 
-mul-touches : tie.Need-mul-touches Inv-loop μ-loop
-mul-touches c = search needs
+mul-low : tie.Need-mul-low Inv-loop μ-loop
+mul-low c = search needs
 
-shared-slice-read-touches : tie.Need-shared-slice-read-touches Inv-loop μ-loop
-shared-slice-read-touches c = omega arith
+shared-slice-read-low : tie.Need-shared-slice-read-low Inv-loop μ-loop
+shared-slice-read-low c = omega arith
 
-mul-touches-2 : tie.Need-mul-touches-2 Inv-loop μ-loop
-mul-touches-2 c = omega arith
+mul-high : tie.Need-mul-high Inv-loop μ-loop
+mul-high c = omega arith
 
-shared-slice-read-touches-2 : tie.Need-shared-slice-read-touches-2 Inv-loop μ-loop
-shared-slice-read-touches-2 c = omega arith
+shared-slice-read-high : tie.Need-shared-slice-read-high Inv-loop μ-loop
+shared-slice-read-high c = omega arith
 
 touches-requires : tie.Need-touches-requires Inv-loop μ-loop
 touches-requires c κs = search needs
 
-pass-link-requires : tie.Need-pass-link-requires Inv-loop μ-loop
-pass-link-requires c κs = omega arith
+mul-hear-link : tie.Need-mul-hear-link Inv-loop μ-loop
+mul-hear-link c = omega arith
+
+shared-slice-read-hear-link : tie.Need-shared-slice-read-hear-link Inv-loop μ-loop
+shared-slice-read-hear-link c = omega arith
+
+hear-link-requires : tie.Need-hear-link-requires Inv-loop μ-loop
+hear-link-requires c κs = search needs
 
 loop-less : tie.Need-loop-less Inv-loop μ-loop
 loop-less c = omega arith
@@ -51,7 +58,7 @@ loop-less c = omega arith
 loop-again : tie.Need-loop-again Inv-loop μ-loop
 loop-again c = (
   omega arith,
-  passed-next _ _ _ _ _ _ _ _ _ _ (c .before .before .before .before .before .before .loop .inv .1) (c .before .before .before .before .before .before .before .before .before .before .before .before .before .pre) (c .before .before .before .before .before .loop-test .taken) _ (c .pass-link .ensures),
+  passed-next _ _ _ _ _ _ _ _ _ _ (c .before .before .before .before .before .before .before .loop .inv .1) (c .before .before .before .before .before .before .before .before .before .before .before .before .before .before .pre) (c .before .before .before .before .before .before .loop-test .taken) _ (c .hear-link .ensures),
 )
 
 loop-less-2 : tie.Need-loop-less-2 Inv-loop μ-loop
@@ -76,12 +83,14 @@ pass-links-spec =
     μ-loop
     loop-holds
     add-at
-    mul-touches
-    shared-slice-read-touches
-    mul-touches-2
-    shared-slice-read-touches-2
+    mul-low
+    shared-slice-read-low
+    mul-high
+    shared-slice-read-high
     touches-requires
-    pass-link-requires
+    mul-hear-link
+    shared-slice-read-hear-link
+    hear-link-requires
     loop-less
     loop-again
     loop-less-2

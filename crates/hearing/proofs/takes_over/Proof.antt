@@ -3,9 +3,9 @@ use native.Mathlib.Omega.{arith}
 use mathlib.Core.Bool.{not}
 use mathlib.Core.Path.{sym, ap, _∙_}
 use borrow.Author.Needs.{needs}
-use Rattle.round.proofs.ScanLaws.{takes-less, takes-more, takes-ceiling, takes-tie}
-use Rattle.round.proofs.node.takes_over.Statement.{statement}
-use Rattle.round.proofs.node.takes_over.Tie as tie
+use Rattle.hearing.proofs.HearLaws.{takes-less, takes-more, takes-ceiling, takes-tie}
+use Rattle.hearing.proofs.takes_over.Statement.{statement}
+use Rattle.hearing.proofs.takes_over.Tie as tie
 
 returns : tie.Need-returns
 returns c = sym (takes-less _ _ _ _ (c .if1 .taken))

@@ -4,10 +4,10 @@ use mathlib.Core.Path.{ap, ap₂, _∙_}
 use borrow.Author.Needs.{needs}
 use Rattle.measure.specs.Measure.{plus}
 use Rattle.rule.specs.Round.{through}
-use Rattle.round.specs.declared.node.Best.{Best}
-use Rattle.round.specs.Scan.{kept, withAsked, hear}
-use Rattle.round.proofs.node.hear_arc.Statement.{statement}
-use Rattle.round.proofs.node.hear_arc.Tie as tie
+use Rattle.hearing.specs.declared.Best.{Best}
+use Rattle.hearing.specs.Hear.{kept, withAsked, hear}
+use Rattle.hearing.proofs.hear_arc.Statement.{statement}
+use Rattle.hearing.proofs.hear_arc.Tie as tie
 
 dist-at-requires : tie.Need-dist-at-requires
 dist-at-requires c κs = search needs

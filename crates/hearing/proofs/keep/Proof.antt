@@ -1,8 +1,8 @@
 -- Each way out is one case of whether the arc takes the place of the one kept.
 use mathlib.Core.Path.{sym, _∙_}
 use borrow.Author.Needs.{needs}
-use Rattle.round.proofs.node.keep.Statement.{statement}
-use Rattle.round.proofs.node.keep.Tie as tie
+use Rattle.hearing.proofs.keep.Statement.{statement}
+use Rattle.hearing.proofs.keep.Tie as tie
 
 takes-over-requires : tie.Need-takes-over-requires
 takes-over-requires c κs = search needs

@@ -1,7 +1,7 @@
 -- Only the flag changes, and to the disjunction of the two.
-use Rattle.round.proofs.ScanLaws.{asked-more, asked-same}
-use Rattle.round.proofs.node.with_asked.Statement.{statement}
-use Rattle.round.proofs.node.with_asked.Tie as tie
+use Rattle.hearing.proofs.HearLaws.{asked-more, asked-same}
+use Rattle.hearing.proofs.with_asked.Statement.{statement}
+use Rattle.hearing.proofs.with_asked.Tie as tie
 
 returns : tie.Need-returns
 returns c = asked-more (c .before .args .best) _ (c .if1 .taken)

@@ -1,9 +1,9 @@
 -- Each way out is one case of whether the neighbour's parent is this node.
 use borrow.Author.Needs.{needs}
 use Rattle.slices.specs.Reading.{nodeAt}
-use Rattle.round.proofs.ScanLaws.{asks-by, asks-not}
-use Rattle.round.proofs.node.asks_for.Statement.{statement}
-use Rattle.round.proofs.node.asks_for.Tie as tie
+use Rattle.hearing.proofs.HearLaws.{asks-by, asks-not}
+use Rattle.hearing.proofs.asks_for.Statement.{statement}
+use Rattle.hearing.proofs.asks_for.Tie as tie
 
 parent-at-requires : tie.Need-parent-at-requires
 parent-at-requires c κs = search needs
