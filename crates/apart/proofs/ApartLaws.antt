@@ -16,8 +16,9 @@ use Rattle.slices.specs.Group.{bitSet, memberIn}
 use Rattle.slices.specs.Slices.{linksOf, cellsOf, parkOf}
 use Rattle.park.specs.ParkFile.{parkIn}
 use Rattle.park.specs.declared.answer.Verdict.the-variants.{Fine}
-use Rattle.park.specs.Reading.{verdictOf, linksRead, cellsRead, fileIn, nodesIn, rootIn, linkCount, groupAt, stateAt}
+use Rattle.park.specs.Reading.{lengthAt, verdictOf, linksRead, cellsRead, fileIn, nodesIn, rootIn, linkCount, groupAt, stateAt}
 use Rattle.park.proofs.FieldLaws.{part, length-part}
+use Rattle.park.proofs.ParkLaws.{nodes-room, links-room}
 use Rattle.park.proofs.RoundTrip.{FileRead, file-read, six, length-read}
 use Rattle.apart.specs.Columns.{column, little}
 
@@ -134,10 +135,10 @@ module _ (s : List ℕ) (bytes : Bytes s) (r : FileRead s) where
 -- What was taken from a file that is not refused: the numbers of its nodes and links, and slices that hold its park and its table.
 module _ (s : List ℕ) (fine : verdictOf s ≡ Fine) where
   pub nodes-said : min 256 (nodesIn s) ≡ nodesIn s
-  nodes-said = omega (arith, file-read s fine .few)
+  nodes-said = omega (arith, nodes-room s (nodesIn s) fine refl)
 
   pub links-said : min 1024 (linkCount s) ≡ linkCount s
-  links-said = omega (arith, file-read s fine .links .most)
+  links-said = omega (arith, links-room s (lengthAt s 7) fine refl)
 
   pub nodes-here : nodesIn s ≡ fileIn s .nodes
   unfolding fileIn

@@ -3,7 +3,7 @@ use Prim.Native.Nat.{ℕ, _+_, _≤_, _<_}
 use native.Mathlib.Nat.{add-comm}
 use native.Mathlib.Omega.{arith}
 use mathlib.Core.Path.{_≡_, refl, sym, ap, _∙_}
-use mathlib.Core.Bool.{Bool, true, false, cond, _&&_, true≢false}
+use mathlib.Core.Bool.{Bool, true, false, cond, _&&_}
 use mathlib.Core.List.{List, map}
 use borrow.Author.Tests.{eq-eqb, ne-eqb, eqb-true, leb-true}
 use lib.Dec.{eqb, leb}
@@ -15,6 +15,7 @@ use Rattle.slices.specs.Slices.{linksOf, parkOf}
 use Rattle.slices.specs.Group.{memberIn}
 use Rattle.slices.specs.Reading.{nodeAt}
 use Rattle.tables.specs.Fit.{even}
+use Rattle.tables.proofs.FitLaws.{both-true}
 use Rattle.round.specs.Parent.{parentBy}
 use Rattle.slices.proofs.SliceLaws.{over, over-next, over-all}
 use Rattle.exact.specs.Nearest.{distsFrom}
@@ -62,10 +63,6 @@ module _ (n root : ℕ) (ls hs cs ws : List ℕ) where
   table-marks Q E q e = e ∙ ap (marksFrom (memberIn 64 ws)) q
 
 -- the tests of the lengths
-both-true : (a b : Bool) → (a && b) ≡ true → (a ≡ true) × (b ≡ true)
-both-true true b e = (refl, e)
-both-true false b e = absurd (true≢false (sym e))
-
 pub record Ready (l h c d p m : ℕ) : Type 0 where
   pub links : (h ≡ l) × (c ≡ l)
   pub table : (p ≡ d) × (m ≡ d)

@@ -15,8 +15,8 @@ use Rattle.wire.specs.Big.{Bytes}
 use Rattle.slices.specs.Group.{bitSet, memberIn}
 use Rattle.park.specs.ParkFile.{ParkFile, ParkFileOk, parkIn, LinkOk, LinksOk, keyOf}
 use Rattle.park.specs.declared.answer.Verdict.the-variants.{Fine}
-use Rattle.park.specs.Reading.{verdictOf, fileIn, readPark, park}
-use Rattle.park.proofs.RoundTrip.{read-then-encode}
+use Rattle.park.specs.Reading.{lengthAt, nodesIn, verdictOf, fileIn, readPark, park}
+use Rattle.park.proofs.RoundTrip.{read-then-encode, file-read}
 
 -- a bit that is set is below the number
 bit-below : (x j m : ℕ) → T (bitSet x j) → x < 2 ^ m → j < m
@@ -76,3 +76,10 @@ fine-read s e = simp e
 
 pub fine-ok : (s : List ℕ) → Bytes s → verdictOf s ≡ Fine → ParkOk (parkIn (fileIn s))
 fine-ok s b fine = read-park-ok s (fileIn s) b (fine-read s fine)
+
+-- it says at most 256 nodes and 1,024 links
+pub nodes-room : (s : List ℕ) (n : ℕ) → verdictOf s ≡ Fine → n ≡ nodesIn s → n ≤ 256
+nodes-room s n fine e = omega (arith, file-read s fine .few)
+
+pub links-room : (s : List ℕ) (x : ℕ) → verdictOf s ≡ Fine → x ≡ lengthAt s 7 → x / 6 ≤ 1024
+links-room s x fine e = omega (arith, file-read s fine .links .most)

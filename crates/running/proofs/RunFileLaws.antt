@@ -1,8 +1,7 @@
 -- A run over the slices that a file is taken apart into is the run of the park that the file holds.
-use Prim.Native.Nat.{ℕ, _+_, _*_, _/_, _≤_}
+use Prim.Native.Nat.{ℕ, _+_, _*_, _≤_}
 use mathlib.Core.Path.{_≡_, refl, sym, ap, ap₂, subst, _∙_}
 use mathlib.Core.Bool.{Bool, true}
-use native.Mathlib.Omega.{arith}
 use mathlib.Core.List.{List, _++_}
 use lib.ListN.{length, take, drop, length-map}
 use lib.Seq.{sets}
@@ -15,7 +14,6 @@ use Rattle.park.specs.declared.answer.Verdict.the-variants.{Fine, Refused}
 use Rattle.park.specs.ParkFile.{parkIn, stateBytes}
 use Rattle.park.specs.Reading.{_then_, verdictOf, fileIn, nodesIn, rootIn, linkCount}
 use Rattle.park.proofs.VerdictLaws.{then-fine}
-use Rattle.park.proofs.RoundTrip.{file-read}
 use Rattle.slices.proofs.TableLaws.{cells-of}
 use Rattle.writing.specs.Area.{roomFor, areaWith}
 use Rattle.placing.proofs.PlacingLaws.{state-file}
@@ -145,10 +143,3 @@ run-ready s old new N place r e h = (rw e (h .answer), rw e (h .area))
 pub ready-fine : (s : List ℕ) (N area place : ℕ) → readyFor s N area place ≡ Fine → (verdictOf s ≡ Fine) × (roomFor (length s) area place ≡ Fine)
 unfolding readyFor
 ready-fine s N area place e = let p = then-fine _ _ e in (p .0, then-fine _ _ (p .1) .1)
-
--- how many nodes and links a file that is not refused says
-pub nodes-room : (s : List ℕ) (n : ℕ) → verdictOf s ≡ Fine → n ≡ nodesIn s → n ≤ 256
-nodes-room s n fine e = omega (arith, file-read s fine .few)
-
-pub links-room : (s : List ℕ) (x : ℕ) → verdictOf s ≡ Fine → x ≡ big 2 s 8 → x / 6 ≤ 1024
-links-room s x fine e = omega (arith, file-read s fine .links .most)

@@ -18,7 +18,7 @@ even-not n a b h = rw (ne-eqb a n h)
 
 -- the test and the fact
 
-both-true : (p q : Bool) → (p && q) ≡ true → (p ≡ true) × (q ≡ true)
+pub both-true : (p q : Bool) → (p && q) ≡ true → (p ≡ true) × (q ≡ true)
 both-true true q e = (refl, e)
 both-true false q e = (e, absurd (false≢true e))
 

@@ -15,6 +15,7 @@ use Rattle.slices.specs.Slices.{cellsOf}
 use Rattle.slices.specs.Slices.{distsOf, parentsOf, marksOf}
 use Rattle.tables.specs.Same.{sameNumbers, sameTable}
 use Rattle.slices.proofs.TableLaws.{cells-of}
+use Rattle.tables.proofs.FitLaws.{both-true}
 
 pub same-lengths : (xs ys : List ℕ) → (length xs ≡ length ys → ⊥) → false ≡ sameNumbers xs ys
 unfolding sameNumbers
@@ -47,17 +48,13 @@ module _ (xs ys : List ℕ) (j : ℕ) (all : Bool) (so-far : sameNumbers (drop j
 
 -- what a comparison says yes to
 
-both : (p q : Bool) → (p && q) ≡ true → (p ≡ true) × (q ≡ true)
-both true q e = (refl, e)
-both false q e = absurd (false≢true e)
-
 numbers-eq : (xs ys : List ℕ) → sameNumbers xs ys ≡ true → xs ≡ ys
 unfolding sameNumbers
 numbers-eq [] [] e = refl
 numbers-eq [] (y ∷ ys) e = absurd (false≢true e)
 numbers-eq (x ∷ xs) [] e = absurd (false≢true e)
 numbers-eq (x ∷ xs) (y ∷ ys) e =
-    let z = both (eqb x y) (sameNumbers xs ys) e in
+    let z = both-true (eqb x y) (sameNumbers xs ys) e in
     ap₂ (λ (a : ℕ) (l : List ℕ). a ∷ l) (eqb-true x y (z .0)) (numbers-eq xs ys (z .1))
 
 numbers-refl : (xs : List ℕ) → sameNumbers xs xs ≡ true
@@ -67,8 +64,8 @@ numbers-refl (x ∷ xs) = rw (eq-eqb x x refl) (numbers-refl xs)
 
 table-eq : (a b : List Cell) → sameTable a b ≡ true → a ≡ b
 table-eq a b e =
-    let y = both (sameNumbers (distsOf a) (distsOf b)) (sameNumbers (parentsOf a) (parentsOf b) && sameNumbers (marksOf a) (marksOf b)) e in
-    let z = both (sameNumbers (parentsOf a) (parentsOf b)) (sameNumbers (marksOf a) (marksOf b)) (y .1) in
+    let y = both-true (sameNumbers (distsOf a) (distsOf b)) (sameNumbers (parentsOf a) (parentsOf b) && sameNumbers (marksOf a) (marksOf b)) e in
+    let z = both-true (sameNumbers (parentsOf a) (parentsOf b)) (sameNumbers (marksOf a) (marksOf b)) (y .1) in
     let d = numbers-eq (distsOf a) (distsOf b) (y .0) in
     let p = numbers-eq (parentsOf a) (parentsOf b) (z .0) in
     let m = numbers-eq (marksOf a) (marksOf b) (z .1) in

@@ -4,7 +4,8 @@ use Prim.Native.Nat.{ℕ, _/_, _≤_}
 use mathlib.Core.Path.{sym, ap, subst, _∙_}
 use mathlib.Core.List.{List}
 use Rattle.running.proofs.LentLaws.{part, room-again, part-again}
-use Rattle.running.proofs.RunFileLaws.{nodes-room, links-room, ends-refused, ends-done}
+use Rattle.park.proofs.ParkLaws.{nodes-room, links-room}
+use Rattle.running.proofs.RunFileLaws.{ends-refused, ends-done}
 use borrow.Author.Needs.{needs}
 use Rattle.running.proofs.run_checked.Statement.{statement}
 use Rattle.running.proofs.run_checked.Tie as tie

@@ -1,16 +1,15 @@
 -- A checked file has no more nodes than the array has room for.
 use Prim.Native.Nat.{ℕ, _≤_}
 use mathlib.Core.Path.{_≡_, refl, sym, _∙_}
-use native.Mathlib.Omega.{arith}
 use lib.Seq.{length-take-le}
 use Rattle.park.specs.Reading.{nodesIn}
-use Rattle.park.proofs.RoundTrip.{file-read}
+use Rattle.park.proofs.ParkLaws.{nodes-room}
 use borrow.Author.Needs.{needs}
 use Rattle.summing.proofs.counts_in.Statement.{statement}
 use Rattle.summing.proofs.counts_in.Tie as tie
 
 room : (c : tie.Start) (x : ℕ) → x ≡ nodesIn (c .args .file .now) → x ≤ 256
-room c x e = omega (arith, file-read (c .args .file .now) (c .pre) .few)
+room c x e = nodes-room (c .args .file .now) x (c .pre) e
 
 number-at-requires : tie.Need-number-at-requires
 number-at-requires c κs = search needs
