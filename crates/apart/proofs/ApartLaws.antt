@@ -20,7 +20,7 @@ use Rattle.park.specs.Reading.{lengthAt, verdictOf, linksRead, cellsRead, fileI
 use Rattle.park.proofs.FieldLaws.{part, length-part}
 use Rattle.park.proofs.ParkLaws.{nodes-room, links-room}
 use Rattle.park.proofs.RoundTrip.{FileRead, file-read, six, length-read}
-use Rattle.apart.specs.Columns.{column, little}
+use Rattle.columns.specs.Columns.{column, little}
 
 pub links-columns : (s : List ℕ) (at n : ℕ)
     → linksOf (column (big 2 s) at 6 n) (column (big 2 s) (at + 2) 6 n) (column (big 2 s) (at + 4) 6 n) ≡ linksRead s at n

@@ -7,7 +7,6 @@ ghost use mathlib.Core.Path.{_≡_};
 ghost use Prim.Native.Nat.{ℕ, _<_};
 ghost use mathlib.Core.List.{List};
 ghost use lib.ListN.{length};
-ghost use Rattle.wire.specs.Big.{big};
 ghost use Rattle.park.specs.declared.answer.Verdict.the-variants.{Fine};
 ghost use Rattle.park.specs.ParkFile.{parkIn};
 ghost use Rattle.park.specs.Reading.{nodesIn, linkCount, verdictOf, fileIn};
@@ -34,9 +33,9 @@ fn way_over(file: &[u8], lows: &mut [u16], highs: &mut [u16], parents: &mut [u16
     requires { ⌜ (length (now lows) ≡ linkCount (now file)) × (length (now highs) ≡ linkCount (now file)) × (length (now parents) ≡ nodesIn (now file)) ⌝ }
     ensures { λ r. let s : List ℕ = now (file .entry) in ⌜ r ≡ parkWay (parkIn (fileIn s)) (fileIn s .state) node ⌝ }
 {
-    apart::column16(file, 10, 6, lows);
-    apart::column16(file, 12, 6, highs);
-    apart::column16(file, 52 + wire::number_at(file, 8), 7, parents);
+    columns::column16(file, 10, 6, lows);
+    columns::column16(file, 12, 6, highs);
+    columns::column16(file, 52 + wire::number_at(file, 8), 7, parents);
     way::way_of(wire::big16(file, 5), lows, highs, parents, node)
 }
 

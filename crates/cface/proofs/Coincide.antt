@@ -3,7 +3,6 @@
 use Prim.Native.Nat.{ℕ}
 use mathlib.Core.Path.{_≡_, sym, ap, _∙_}
 use mathlib.Core.List.{List}
-use lib.Seq.{sets}
 use Rattle.wire.specs.Big.{Bytes}
 use Rattle.exacting.specs.declared.ExactAnswer.{ExactAnswer}
 use Rattle.exacting.specs.Exacting.{Exacted}
@@ -13,21 +12,21 @@ use Rattle.judging.specs.Judging.{Judged}
 use Rattle.judging.proofs.JudgeLaws.{right-one}
 use Rattle.chandvreksh.specs.Values.{exactValues, rightValues}
 
--- what `chandvreksh_exact` ensures of a file, an area and a place: `was` and `is` are the answer's numbers before and after
-abbrev pub ExactAllows : List ℕ → List ℕ → ℕ → List ℕ → List ℕ → List ℕ → Type 0
-ExactAllows s old place new was is =
-    (found : ExactAnswer) × Exacted s old place found new × (is ≡ sets was 0 (exactValues found))
+-- what `chandvreksh_exact` ensures of a file, an area and a place: `is` has the answer's numbers
+abbrev pub ExactAllows : List ℕ → List ℕ → ℕ → List ℕ → List ℕ → Type 0
+ExactAllows s old place new is =
+    (found : ExactAnswer) × Exacted s old place found new × (is ≡ exactValues found)
 
-pub exact-coincides : (s old : List ℕ) (place : ℕ) (was : List ℕ) → Bytes s → (new new′ is is′ : List ℕ)
-    → ExactAllows s old place new was is → ExactAllows s old place new′ was is′ → (is ≡ is′) × (new ≡ new′)
-exact-coincides s old place was b new new′ is is′ (r, x, e) (r′, x′, e′) =
+pub exact-coincides : (s old : List ℕ) (place : ℕ) → Bytes s → (new new′ is is′ : List ℕ)
+    → ExactAllows s old place new is → ExactAllows s old place new′ is′ → (is ≡ is′) × (new ≡ new′)
+exact-coincides s old place b new new′ is is′ (r, x, e) (r′, x′, e′) =
     let same : (r ≡ r′) × (new ≡ new′) = exact-one s old place b r r′ new new′ x x′ in
-    (e ∙ ap (λ (f : ExactAnswer). sets was 0 (exactValues f)) (same .0) ∙ sym e′, same .1)
+    (e ∙ ap exactValues (same .0) ∙ sym e′, same .1)
 
 -- what `chandvreksh_right` ensures of a file
-abbrev pub RightAllows : List ℕ → List ℕ → List ℕ → Type 0
-RightAllows s was is = (found : RightAnswer) × Judged s found × (is ≡ sets was 0 (rightValues found))
+abbrev pub RightAllows : List ℕ → List ℕ → Type 0
+RightAllows s is = (found : RightAnswer) × Judged s found × (is ≡ rightValues found)
 
-pub right-coincides : (s was : List ℕ) → Bytes s → (is is′ : List ℕ) → RightAllows s was is → RightAllows s was is′ → is ≡ is′
-right-coincides s was b is is′ (r, j, e) (r′, j′, e′) =
-    e ∙ ap (λ (f : RightAnswer). sets was 0 (rightValues f)) (right-one s b r r′ j j′) ∙ sym e′
+pub right-coincides : (s : List ℕ) → Bytes s → (is is′ : List ℕ) → RightAllows s is → RightAllows s is′ → is ≡ is′
+right-coincides s b is is′ (r, j, e) (r′, j′, e′) =
+    e ∙ ap rightValues (right-one s b r r′ j j′) ∙ sym e′

@@ -1,19 +1,18 @@
 // The seven calls for C: numbers, and lent bytes as a pointer and a length. `answer` takes eight 64-bit numbers: the
 // refusal's number (0 for none), its place in bytes, then the call's own values; a value that is not used is 0. No call
 // keeps state, allocates or blocks. include/chandvreksh.h declares them.
-use answering::put_check;
-use answering::put_exact;
-use answering::put_right;
-use answering::put_run;
-use answering::put_summary;
-use answering::put_way;
-use answering::put_write;
+use answering::check_values;
+use answering::exact_values;
+use answering::right_values;
+use answering::run_values;
+use answering::summary_values;
+use answering::way_values;
+use answering::write_values;
 use measure::Rounds;
 ghost use mathlib.Core.Path.{_≡_};
 ghost use mathlib.Core.List.{List};
 ghost use Prim.Native.Nat.{ℕ};
 ghost use lib.ListN.{length};
-ghost use lib.Seq.{sets};
 ghost use Rattle.park.specs.Reading.{checkOf};
 ghost use Rattle.making.specs.Making.{fileOf};
 ghost use Rattle.writing.specs.Area.{areaWith};
@@ -30,9 +29,9 @@ ghost use Rattle.chandvreksh.specs.Values.{checkValues, runValues, exactValues,
 // Check: nodes, links.
 #[no_mangle]
 pub extern "C" fn chandvreksh_check(file: &[u8], answer: &mut [u64; 8])
-    ensures { λ _. ⌜ now (answer .exit) ≡ sets (now (answer .entry)) 0 (checkValues (checkOf (now (file .entry)))) ⌝ }
+    ensures { λ _. ⌜ now (answer .exit) ≡ checkValues (checkOf (now (file .entry))) ⌝ }
 {
-    put_check(chandvreksh::check(file), answer);
+    *answer = check_values(chandvreksh::check(file));
 }
 
 // Run: rounds done, and 1 if it is quiet. The count is in rounds, the place in bytes.
@@ -47,9 +46,9 @@ pub extern "C" fn chandvreksh_run(
     ensures { λ _.
         let s : List ℕ = now (file .entry) in
         let old : List ℕ = now (area .entry) in
-        ⌜ (now (answer .exit) ≡ sets (now (answer .entry)) 0 (runValues (runAnswer s count (length old) place))) × (now (area .exit) ≡ areaWith (runVerdict s count (length old) place) (runFile s count) place old) ⌝ }
+        ⌜ (now (answer .exit) ≡ runValues (runAnswer s count (length old) place)) × (now (area .exit) ≡ areaWith (runVerdict s count (length old) place) (runFile s count) place old) ⌝ }
 {
-    put_run(chandvreksh::run(file, Rounds(count), area, place), answer);
+    *answer = run_values(chandvreksh::run(file, Rounds(count), area, place));
 }
 
 // Exact: no values of its own. The place is in bytes.
@@ -61,9 +60,9 @@ pub extern "C" fn chandvreksh_exact(
     answer: &mut [u64; 8],
 )
     ensures { λ _.
-        ⌜ ((found : ExactAnswer) × Exacted (now (file .entry)) (now (area .entry)) place found (now (area .exit)) × (now (answer .exit) ≡ sets (now (answer .entry)) 0 (exactValues found))) ⌝ }
+        ⌜ ((found : ExactAnswer) × Exacted (now (file .entry)) (now (area .entry)) place found (now (area .exit)) × (now (answer .exit) ≡ exactValues found)) ⌝ }
 {
-    put_exact(chandvreksh::exact_file(file, area, place), answer);
+    *answer = exact_values(chandvreksh::exact_file(file, area, place));
 }
 
 // Write: `links` has three numbers a link (lower node, higher node, cost in cost units), distances are in cost units, and
@@ -84,44 +83,41 @@ pub extern "C" fn chandvreksh_write(
     ensures { λ _.
         let file : List ℕ = fileOf nodes root (now (links .entry)) (now (group .entry)) (now (distances .entry)) (now (parents .entry)) (now (marks .entry)) in
         let old : List ℕ = now (area .entry) in
-        ⌜ (now (answer .exit) ≡ sets (now (answer .entry)) 0 (writeValues (writeOf file (length old) place))) × (now (area .exit) ≡ areaWith (writeVerdict file (length old) place) file place old) ⌝ }
+        ⌜ (now (answer .exit) ≡ writeValues (writeOf file (length old) place)) × (now (area .exit) ≡ areaWith (writeVerdict file (length old) place) file place old) ⌝ }
 {
-    put_write(
-        chandvreksh::write(
-            nodes,
-            root,
-            links,
-            group,
-            distances,
-            parents,
-            marks,
-            area,
-            place,
-        ),
-        answer,
-    );
+    *answer = write_values(chandvreksh::write(
+        nodes,
+        root,
+        links,
+        group,
+        distances,
+        parents,
+        marks,
+        area,
+        place,
+    ));
 }
 
 // Right: 1 for yes.
 #[no_mangle]
 pub extern "C" fn chandvreksh_right(file: &[u8], answer: &mut [u64; 8])
-    ensures { λ _. ⌜ ((found : RightAnswer) × Judged (now (file .entry)) found × (now (answer .exit) ≡ sets (now (answer .entry)) 0 (rightValues found))) ⌝ }
+    ensures { λ _. ⌜ ((found : RightAnswer) × Judged (now (file .entry)) found × (now (answer .exit) ≡ rightValues found)) ⌝ }
 {
-    put_right(chandvreksh::right(file), answer);
+    *answer = right_values(chandvreksh::right(file));
 }
 
 // Way: the node asked about, 0 reached, 1 broken or 2 looping, and the hops or the node.
 #[no_mangle]
 pub extern "C" fn chandvreksh_way(file: &[u8], node: u16, answer: &mut [u64; 8])
-    ensures { λ _. ⌜ now (answer .exit) ≡ sets (now (answer .entry)) 0 (wayValues (wayAnswer (now (file .entry)) node)) ⌝ }
+    ensures { λ _. ⌜ now (answer .exit) ≡ wayValues (wayAnswer (now (file .entry)) node) ⌝ }
 {
-    put_way(chandvreksh::way_of_node(file, node), answer);
+    *answer = way_values(chandvreksh::way_of_node(file, node));
 }
 
 // Summary: members, marked nodes and served members, in nodes.
 #[no_mangle]
 pub extern "C" fn chandvreksh_summary(file: &[u8], answer: &mut [u64; 8])
-    ensures { λ _. ⌜ now (answer .exit) ≡ sets (now (answer .entry)) 0 (summaryValues (summaryAnswer (now (file .entry)))) ⌝ }
+    ensures { λ _. ⌜ now (answer .exit) ≡ summaryValues (summaryAnswer (now (file .entry))) ⌝ }
 {
-    put_summary(chandvreksh::summary(file), answer);
+    *answer = summary_values(chandvreksh::summary(file));
 }

@@ -8,8 +8,7 @@ use lib.ListN.{length}
 use lib.Dec.{T, leb, leb→le}
 use Rattle.wire.specs.Big.{Bytes, big, bytesOf}
 use Rattle.slices.specs.Group.{bitSet, memberIn}
-use Rattle.rule.specs.Round.{Cell, through, least, giving, before, first, chosen, newDist, parentAt, asked, newMark, newCell, at, numbered, round, arcsOf, netOf}
-use Rattle.rule.specs.Exact.{Exact}
+use Rattle.rule.specs.Round.{through, least, giving, before, first, chosen, newDist, parentAt, asked, newMark, newCell, at, numbered, round, arcsOf, netOf}
 use Rattle.rule.proofs.Demand3 as demand3
 use Rattle.park.specs.declared.answer.Verdict.the-variants.{Fine}
 use Rattle.park.specs.ParkFile.{parkIn, field, linkBytes, stateBytes, encode, withState}

@@ -1,7 +1,7 @@
 -- Document 01's number and values for each case of each answer, as eight numbers: the refusal's number (0 for none), its place in
 -- bytes, then the call's own values; a value that is not used is 0. "Every refusal gives number and place, rounds 0."
 use Prim.Native.Nat.{ℕ}
-use mathlib.Core.Bool.{Bool, true, false, cond}
+use mathlib.Core.Bool.{cond}
 use mathlib.Core.List.{List, [], _∷_}
 use Rattle.park.specs.declared.refusal.Refusal.{Refusal}
 use Rattle.park.specs.Refusals.{numberOf, placeOf}
@@ -10,7 +10,6 @@ use Rattle.writing.specs.declared.Written as written
 use Rattle.running.specs.declared.RunAnswer as ran
 use Rattle.exacting.specs.declared.ExactAnswer as exacted
 use Rattle.judging.specs.declared.RightAnswer as judged
-use Rattle.way.specs.declared.Way.{Way}
 use Rattle.way.specs.declared.Outcome as outcome
 use Rattle.asking.specs.declared.WayAnswer as told
 use Rattle.summing.specs.declared.SummaryAnswer as counted

@@ -4,16 +4,8 @@ use park::answer::Checked;
 use park::answer::Verdict;
 use park::refusal::Refusal;
 ghost use mathlib.Core.Path.{_≡_};
-ghost use Prim.Native.Nat.{_+_, _*_, _^_, _-_, _≤_, _<_, min};
-ghost use lib.ListN.{getD};
-ghost use Rattle.park.specs.Reading.{fieldAt, headIn, linkAt, linksFrom, linksIn, bitsClear, groupIn, stateIn, endIn, verdictOf, checkOf};
-
-// The byte at a place, 0 outside the file.
-fn byte(file: &[u8], at: usize) -> u16
-    ensures { λ r. ⌜ (r ≡ getD (now (file .entry)) at 0) × (r < 256) ⌝ }
-{
-    wire::byte_at(file, at) as u16
-}
+ghost use Prim.Native.Nat.{_≤_, _<_};
+ghost use Rattle.park.specs.Reading.{fieldAt, headIn, linksIn, groupIn, stateIn, endIn, verdictOf, checkOf};
 
 // Head complete, tag, length, body complete: the field due at a place, whose length is a multiple of `step` bytes from
 // `low` to `high` bytes.
@@ -27,7 +19,7 @@ fn field(file: &[u8], at: usize, tag: u8, step: usize, low: usize, high: usize) 
     if wire::byte_at(file, at) != tag {
         return Verdict::Refused(Refusal::Tag(at));
     }
-    let length = wire::wide(wire::big16(file, at + 1));
+    let length = wire::number_at(file, at + 1);
     if length % step != 0 {
         return Verdict::Refused(Refusal::Length(at));
     }
@@ -68,51 +60,6 @@ fn head(file: &[u8]) -> Verdict
     Verdict::Fine
 }
 
-// The link whose record is at a place; `before` has the two ends of the link before, as one number.
-fn link(file: &[u8], nodes: u16, at: usize, before: u32) -> Verdict
-    requires { ⌜ at ≤ 1048576 ⌝ }
-    ensures { λ r. ⌜ r ≡ linkAt (now (file .entry)) nodes at before ⌝ }
-{
-    let low = wire::big16(file, at);
-    let high = wire::big16(file, at + 2);
-    if low < 1 {
-        return Verdict::Refused(Refusal::Ends(at));
-    }
-    if high <= low {
-        return Verdict::Refused(Refusal::Ends(at));
-    }
-    if nodes < high {
-        return Verdict::Refused(Refusal::Ends(at));
-    }
-    if wire::big16(file, at + 4) < 1 {
-        return Verdict::Refused(Refusal::Ends(at));
-    }
-    if wire::big32(file, at) <= before {
-        return Verdict::Refused(Refusal::Order(at));
-    }
-    Verdict::Fine
-}
-
-// The records of as many links as are said, from byte 10 on.
-fn records(file: &[u8], nodes: u16, links: usize) -> Verdict
-    requires { ⌜ links ≤ 65536 ⌝ }
-    ensures { λ r. ⌜ r ≡ linksFrom (now (file .entry)) nodes 10 0 links ⌝ }
-{
-    let mut left = links;
-    let mut at = 10;
-    let mut before: u32 = 0;
-    while 0 < left {
-        let one = link(file, nodes, at, before);
-        if let Verdict::Refused(r) = one {
-            return Verdict::Refused(r);
-        }
-        before = wire::big32(file, at);
-        at = at + 6;
-        left = left - 1;
-    }
-    Verdict::Fine
-}
-
 // Field 2: the links.
 fn links(file: &[u8]) -> Verdict
     ensures { λ r. ⌜ r ≡ linksIn (now (file .entry)) ⌝ }
@@ -121,59 +68,20 @@ fn links(file: &[u8]) -> Verdict
     if let Verdict::Refused(r) = second {
         return Verdict::Refused(r);
     }
-    let length = wire::wide(wire::big16(file, 8));
-    records(file, wire::big16(file, 3), length / 6)
-}
-
-// How many different values a byte has that holds the bits of the next nodes, n nodes being left.
-fn values(n: usize) -> u16
-    ensures { λ r. ⌜ r ≡ 2 ^ min 8 n ⌝ }
-{
-    if 8 <= n {
-        return 256;
-    }
-    1u16 << n
-}
-
-// The nodes that are left after a byte of the group.
-fn later(n: usize) -> usize
-    ensures { λ r. ⌜ r ≡ n - 8 ⌝ }
-{
-    if n < 8 {
-        return 0;
-    }
-    n - 8
-}
-
-// Whether the 32 bytes of the group from a place on have no bit above n.
-fn bits(file: &[u8], from: usize, nodes: usize) -> bool
-    requires { ⌜ from ≤ 1048576 ⌝ }
-    ensures { λ r. ⌜ r ≡ bitsClear (now (file .entry)) from nodes 32 ⌝ }
-{
-    let mut left: usize = 32;
-    let mut at = from;
-    let mut n = nodes;
-    while 0 < left {
-        if values(n) <= byte(file, at) {
-            return false;
-        }
-        at = at + 1;
-        n = later(n);
-        left = left - 1;
-    }
-    true
+    contents::records(file, wire::big16(file, 3), wire::big16(file, 8) / 6)
 }
 
 // Field 3: the group.
 fn group(file: &[u8]) -> Verdict
     ensures { λ r. ⌜ r ≡ groupIn (now (file .entry)) ⌝ }
 {
-    let at = 10 + wire::wide(wire::big16(file, 8));
+    let length = wire::big16(file, 8);
+    let at = 10 + length as usize;
     let third = field(file, at, 3, 1, 32, 32);
     if let Verdict::Refused(r) = third {
         return Verdict::Refused(r);
     }
-    if bits(file, at + 3, wire::wide(wire::big16(file, 3))) {
+    if contents::bits(file, length, wire::big16(file, 3)) {
         return Verdict::Fine;
     }
     Verdict::Refused(Refusal::Bit(at))
@@ -183,8 +91,8 @@ fn group(file: &[u8]) -> Verdict
 fn state(file: &[u8]) -> Verdict
     ensures { λ r. ⌜ r ≡ stateIn (now (file .entry)) ⌝ }
 {
-    let at = 45 + wire::wide(wire::big16(file, 8));
-    let length = 7 * wire::wide(wire::big16(file, 3));
+    let at = 45 + wire::number_at(file, 8);
+    let length = 7 * wire::number_at(file, 3);
     field(file, at, 4, 1, length, length)
 }
 
@@ -192,7 +100,7 @@ fn state(file: &[u8]) -> Verdict
 fn end(file: &[u8]) -> Verdict
     ensures { λ r. ⌜ r ≡ endIn (now (file .entry)) ⌝ }
 {
-    let at = 48 + wire::wide(wire::big16(file, 8)) + 7 * wire::wide(wire::big16(file, 3));
+    let at = 48 + wire::number_at(file, 8) + 7 * wire::number_at(file, 3);
     if at < file.len() {
         return Verdict::Refused(Refusal::After(at));
     }

@@ -1,22 +1,21 @@
 -- The table that is found without rounds is the exact table.
-use Prim.Native.Nat.{ℕ, zero, suc, _+_, _≤_, _<_}
-use native.Mathlib.Nat.{le-refl, le-trans, le-of-eq, le-antisymm}
+use Prim.Native.Nat.{ℕ, zero, suc, _≤_, _<_}
+use native.Mathlib.Nat.{le-antisymm}
 use native.Mathlib.Omega.{arith}
 use mathlib.Core.Path.{_≡_, refl, sym, ap, _∙_, subst, subst₂, subst₃}
 use mathlib.Core.Logic.{_⊎_, inl, inr, ⊎-elim}
-use mathlib.Core.Bool.{Bool}
-use mathlib.Core.List.{List, map}
+use mathlib.Core.List.{List}
 use lib.Dec.{T}
 use lib.ListN.{length, length-map, List·getD-eq-default}
 use Rattle.measure.specs.Measure.{ceiling}
-use Rattle.rule.specs.Round.{Net, Cell, Park, newDist, parentAt, numbered, at, netOf}
+use Rattle.rule.specs.Round.{Cell, Park, newDist, parentAt, at, netOf}
 use Rattle.rule.specs.Exact.{ExactDist, ExactParent, noParent, ExactMark, set, clear, Needed, own, onWay, onward, ExactCell, Exact}
 use Rattle.rule.specs.Settles.{ParkOk}
 use Rattle.rule.proofs.OfferLaws.{same?, below?}
-use Rattle.rule.proofs.Sound.{Within, Sound}
+use Rattle.rule.proofs.Sound.{Within}
 use Rattle.rule.proofs.ContractionLaws.{Solves}
 use Rattle.rule.proofs.DistanceLaws.{certificate, solved-exact, solved-le, solved-node}
-use Rattle.rule.proofs.ParentLaws.{parent-exact, parent-arc}
+use Rattle.rule.proofs.ParentLaws.{parent-exact}
 use Rattle.rule.proofs.MarkLaws.{pass-on, child-farther}
 use Rattle.rule.proofs.HopsLaws.{hops-few}
 use Rattle.rule.proofs.NetLaws.{sound}
@@ -24,12 +23,11 @@ use Rattle.rule.proofs.TableLaws.{within?, length-numbered, getD-numbered}
 use Rattle.slices.specs.Slices.{cellsOf}
 use Rattle.slices.specs.Reading.{nodeAt}
 use Rattle.slices.proofs.TableLaws.{Slices, slices, part-at}
-use Rattle.exact.specs.Nearest.{distsFrom}
-use Rattle.exact.specs.Walk.{marksFrom}
+use Rattle.marking.specs.Walk.{marksFrom}
 use Rattle.round.specs.Parent.{parentBy}
 use Rattle.exact.specs.Found.{foundDists, parentsBy, foundParents, foundMarks}
-use Rattle.exact.proofs.SettleLaws.{found-certified, length-dists}
-use Rattle.exact.proofs.WalkLaws.{length-marks, marks-why, marks-reach}
+use Rattle.offering.proofs.SettleLaws.{found-certified, length-dists}
+use Rattle.marking.proofs.WalkLaws.{length-marks, marks-why, marks-reach}
 
 module _ {p : Park} (ok : ParkOk p) where
   S : ℕ → ℕ

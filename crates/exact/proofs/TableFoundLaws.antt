@@ -1,25 +1,25 @@
--- The three steps put together: parents node by node, the tests of the slices' lengths, and what the whole answers.
+-- The three steps put together: parents node by node, the tests of the slices' lengths, and what the whole answers and leaves.
 use Prim.Native.Nat.{ℕ, _+_, _≤_, _<_}
 use native.Mathlib.Nat.{add-comm}
 use native.Mathlib.Omega.{arith}
-use mathlib.Core.Path.{_≡_, refl, sym, ap, _∙_}
+use mathlib.Core.Path.{_≡_, refl, sym, ap, ap₂, _∙_}
 use mathlib.Core.Bool.{Bool, true, false, cond, _&&_}
-use mathlib.Core.List.{List, map}
-use borrow.Author.Tests.{eq-eqb, ne-eqb, eqb-true, leb-true}
-use lib.Dec.{eqb, leb}
-use lib.ListN.{length, getD, set}
+use mathlib.Core.List.{List}
+use borrow.Author.Tests.{eq-eqb}
+use lib.Dec.{leb}
+use lib.ListN.{length, getD, set, replicate}
 use Rattle.measure.specs.Measure.{ceiling}
-use Rattle.rule.specs.Round.{Link, numbered}
+use Rattle.rule.specs.Round.{Link}
 use Rattle.rule.proofs.TableLaws.{length-numbered, getD-numbered}
 use Rattle.slices.specs.Slices.{linksOf, parkOf}
 use Rattle.slices.specs.Group.{memberIn}
 use Rattle.slices.specs.Reading.{nodeAt}
 use Rattle.tables.specs.Fit.{even}
-use Rattle.tables.proofs.FitLaws.{both-true}
+use Rattle.tables.proofs.FitLaws.{both-true, even-true}
 use Rattle.round.specs.Parent.{parentBy}
 use Rattle.slices.proofs.SliceLaws.{over, over-next, over-all}
-use Rattle.exact.specs.Nearest.{distsFrom}
-use Rattle.exact.specs.Walk.{marksFrom}
+use Rattle.offering.specs.Offering.{distsFrom, searchable}
+use Rattle.marking.specs.Walk.{walkedFrom, marksFrom}
 use Rattle.exact.specs.Found.{foundDists, parentsBy, foundParents, foundMarks, ready, Found}
 
 pub even-is : (n a b : ℕ) → (a ≡ n) × (b ≡ n) → even n a b ≡ true
@@ -46,46 +46,48 @@ module _ (root : ℕ) (ls : List Link) (D old r : List ℕ) (k : ℕ) (so-far : 
   pub parents-end : length r ≤ k → r ≡ parentsBy root ls D (length old)
   parents-end h = so-far ∙ over-all (parentsBy root ls D (length old)) old k (omega (arith, length-by root ls D (length old))) (length-by root ls D (length old))
 
--- the three parts of the table, of the park that the slices hold
-module _ (n root : ℕ) (ls hs cs ws : List ℕ) where
-  pub table-dists : (E : List ℕ) → E ≡ distsFrom n root (linksOf ls hs cs) → E ≡ foundDists (parkOf n root ls hs cs ws)
-  unfolding foundDists parkOf
-  table-dists E e = e
+-- the slices belong together where both tests say so
+both-false : (x : Bool) → false ≡ (x && false)
+both-false true = refl
+both-false false = refl
 
-  pub table-parents : (D E : List ℕ) (k : ℕ) → D ≡ distsFrom n root (linksOf ls hs cs) → k ≡ n → E ≡ parentsBy root (linksOf ls hs cs) D k
-      → E ≡ foundParents (parkOf n root ls hs cs ws)
-  unfolding foundParents foundDists parkOf
-  table-parents D E k d l e =
-      e ∙ ap (λ (x : List ℕ). parentsBy root (linksOf ls hs cs) x k) d ∙ ap (parentsBy root (linksOf ls hs cs) (distsFrom n root (linksOf ls hs cs))) l
+module _ (l h c d p m : ℕ) (b : Bool) (e : b ≡ even d p m) where
+  ready-by : b ≡ true → (s : Bool) → s ≡ searchable l h c d → s ≡ ready l h c d p m
+  ready-by t s f = f ∙ ap (λ (x : Bool). even l h c && (x && leb d 256)) (sym t ∙ e)
 
-  pub table-marks : (Q E : List ℕ) → Q ≡ foundParents (parkOf n root ls hs cs ws) → E ≡ marksFrom (memberIn 64 ws) Q → E ≡ foundMarks (parkOf n root ls hs cs ws)
-  unfolding foundMarks parkOf
-  table-marks Q E q e = e ∙ ap (marksFrom (memberIn 64 ws)) q
+  not-ready : b ≡ false → false ≡ ready l h c d p m
+  not-ready t = both-false (even l h c) ∙ ap (λ (x : Bool). even l h c && (x && leb d 256)) (sym t ∙ e)
 
--- the tests of the lengths
-pub record Ready (l h c d p m : ℕ) : Type 0 where
-  pub links : (h ≡ l) × (c ≡ l)
-  pub table : (p ≡ d) × (m ≡ d)
-  pub few : d ≤ 256
+pub links-even : (l h c d : ℕ) (s : Bool) → s ≡ searchable l h c d → s ≡ true → (h ≡ l) × (c ≡ l)
+links-even l h c d s f t = even-true l h c (both-true (even l h c) (leb d 256) (sym f ∙ t) .0)
 
-pub ready-true : (l h c d p m : ℕ) → ready l h c d p m ≡ true → Ready l h c d p m
-ready-true l h c d p m e =
-    let a = both-true (even l h c) (even d p m && leb d 256) e in
-    let b = both-true (even d p m) (leb d 256) (a .1) in
-    let x = both-true (eqb h l) (eqb c l) (a .0) in
-    let y = both-true (eqb p d) (eqb m d) (b .0) in
-    record {
-      links = (eqb-true h l (x .0), eqb-true c l (x .1));
-      table = (eqb-true p d (y .0), eqb-true m d (y .1));
-      few = leb-true d 256 (b .1);
-    }
+-- what the whole answers, and leaves, by the two tests
+module _ (root : ℕ) (ls hs cs ws ds ps ms : List ℕ) (b : Bool) (e : b ≡ even (length ds) (length ps) (length ms)) where
+  pub found-not : b ≡ false → Found false root ls hs cs ws ds ps ms ds ps ms
+  found-not t = record { answer = not-ready (length ls) (length hs) (length cs) (length ds) (length ps) (length ms) b e t; dists = refl; parents = refl; marks = refl }
 
--- what the whole answers, and leaves
-module _ (root : ℕ) (ls hs cs ws ds ps ms : List ℕ) where
-  pub found-all : (E Q M : List ℕ) → ready (length ls) (length hs) (length cs) (length ds) (length ps) (length ms) ≡ true
-      → (E ≡ foundDists (parkOf (length ds) root ls hs cs ws)) × (Q ≡ foundParents (parkOf (length ds) root ls hs cs ws)) × (M ≡ foundMarks (parkOf (length ds) root ls hs cs ws))
-      → Found true root ls hs cs ws ds ps ms E Q M
-  found-all E Q M e f = record { answer = sym e; dists = f .0; parents = f .1; marks = f .2 }
+  module _ (t : b ≡ true) (s : Bool) (E : List ℕ)
+      (f : (s ≡ searchable (length ls) (length hs) (length cs) (length ds)) × (E ≡ cond s (distsFrom (length ds) root (linksOf ls hs cs)) ds)) where
+    answers : s ≡ ready (length ls) (length hs) (length cs) (length ds) (length ps) (length ms)
+    answers = ready-by (length ls) (length hs) (length cs) (length ds) (length ps) (length ms) b e t s (f .0)
 
-  pub found-none : ready (length ls) (length hs) (length cs) (length ds) (length ps) (length ms) ≡ false → Found false root ls hs cs ws ds ps ms ds ps ms
-  found-none e = record { answer = sym e; dists = refl; parents = refl; marks = refl }
+    picked : (x : Bool) → s ≡ x → E ≡ cond x (distsFrom (length ds) root (linksOf ls hs cs)) ds
+    picked x u = f .1 ∙ ap (λ (y : Bool). cond y (distsFrom (length ds) root (linksOf ls hs cs)) ds) u
+
+    pub found-none : s ≡ false → Found false root ls hs cs ws ds ps ms E ps ms
+    found-none u = record { answer = sym u ∙ answers; dists = picked false u; parents = refl; marks = refl }
+
+    pub found-all : s ≡ true → (Q : List ℕ) → Q ≡ parentsBy root (linksOf ls hs cs) E (length ps)
+        → (M : List ℕ) → M ≡ walkedFrom (memberIn 64 ws) Q (length Q) 1 (replicate (length ms) 0) → Found true root ls hs cs ws ds ps ms E Q M
+    unfolding foundDists foundParents foundMarks marksFrom parkOf
+    found-all u Q q M m =
+        let n = even-true (length ds) (length ps) (length ms) (sym e ∙ t) in
+        let D : E ≡ distsFrom (length ds) root (linksOf ls hs cs) = picked true u in
+        let long : length Q ≡ length ps = ap length q ∙ length-by root (linksOf ls hs cs) E (length ps) in
+        let P : Q ≡ parentsBy root (linksOf ls hs cs) (distsFrom (length ds) root (linksOf ls hs cs)) (length ds) = q ∙ ap₂ (parentsBy root (linksOf ls hs cs)) D (n .0) in
+        record {
+          answer = sym u ∙ answers;
+          dists = D;
+          parents = P;
+          marks = m ∙ ap (λ (k : ℕ). walkedFrom (memberIn 64 ws) Q (length Q) 1 (replicate k 0)) (n .1 ∙ sym (n .0) ∙ sym long) ∙ ap (marksFrom (memberIn 64 ws)) P;
+        }

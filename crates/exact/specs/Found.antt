@@ -11,8 +11,8 @@ use Rattle.slices.specs.Slices.{parkOf}
 use Rattle.slices.specs.Reading.{nodeAt}
 use Rattle.tables.specs.Fit.{even}
 use Rattle.round.specs.Parent.{parentBy}
-use Rattle.exact.specs.Nearest.{distsFrom}
-use Rattle.exact.specs.Walk.{marksFrom}
+use Rattle.offering.specs.Offering.{distsFrom}
+use Rattle.marking.specs.Walk.{marksFrom}
 
 -- the distances of a park's nodes, in cost units
 unfoldable pub foundDists : Park → List ℕ

@@ -1,4 +1,1 @@
-pub mod Flag
-pub mod Nearest
-pub mod Walk
 pub mod Found

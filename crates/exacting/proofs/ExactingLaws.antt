@@ -1,27 +1,27 @@
 -- The table that is found is the exact one, and a park has no other, so that the area holds the file that Exact promises.
 use Prim.Native.Nat.{ℕ, _+_, _*_, _≤_}
-use mathlib.Core.Path.{_≡_, refl, sym, ap, ap₂, _∙_}
+use mathlib.Core.Path.{_≡_, refl, sym, ap, subst, _∙_}
 use mathlib.Core.Bool.{Bool, true, cond}
-use mathlib.Core.List.{List}
+use mathlib.Core.List.{List, _++_}
 use native.Mathlib.Omega.{arith}
 use borrow.Author.Tests.{eq-eqb, le-leb}
-use lib.ListN.{length}
+use lib.ListN.{length, take, drop}
 use lib.Seq.{sets}
-use Rattle.rule.specs.Round.{Cell, Park}
+use Rattle.rule.specs.Round.{Cell}
 use Rattle.rule.specs.Exact.{Exact}
 use Rattle.rule.proofs.Demand3.{exists, unique}
 use Rattle.wire.specs.Big.{Bytes, big}
-use Rattle.slices.specs.Slices.{cellsOf, parkOf}
+use Rattle.slices.specs.Slices.{cellsOf}
 use Rattle.park.specs.declared.refusal.Refusal.{Refusal}
 use Rattle.park.specs.declared.answer.Verdict.{Verdict}
 use Rattle.park.specs.declared.answer.Verdict.the-variants.{Fine, Refused}
-use Rattle.park.specs.ParkFile.{ParkFile, parkIn, stateBytes, encode, withState}
+use Rattle.park.specs.ParkFile.{parkIn, stateBytes, encode, withState}
 use Rattle.park.specs.Reading.{verdictOf, fileIn, nodesIn, rootIn, linkCount, _then_}
 use Rattle.park.proofs.VerdictLaws.{then-fine}
-use Rattle.park.proofs.RoundTrip.{file-read}
 use Rattle.park.proofs.ParkLaws.{fine-ok}
-use Rattle.apart.specs.Columns.{column, little}
-use Rattle.apart.proofs.ApartLaws.{nodes-here, park-taken}
+use Rattle.columns.specs.Columns.{column, little}
+use Rattle.apart.proofs.ApartLaws.{nodes-here}
+use Rattle.apart.proofs.LentLaws.{again, links-again, park-again}
 use Rattle.writing.specs.Area.{roomFor, areaWith}
 use Rattle.placing.proofs.PlacingLaws.{state-file}
 use Rattle.exact.specs.Found.{ready, foundDists, foundParents, foundMarks, Found}
@@ -29,7 +29,6 @@ use Rattle.exact.proofs.FoundLaws.{found-exact}
 use Rattle.exacting.specs.declared.ExactAnswer.{ExactAnswer}
 use Rattle.exacting.specs.declared.ExactAnswer.the-variants as answer
 use Rattle.exacting.specs.Exacting.{exactVerdict, exactBy, Exacted}
-use Rattle.exacting.specs.Found.{Room, foundTable}
 
 -- a file that is refused leaves the area as it was
 pub exact-refused : (s old : List ℕ) (place : ℕ) (v : Refusal) → verdictOf s ≡ Refused v → Exacted s old place (answer.Refused v) old
@@ -42,22 +41,20 @@ exact-refused s old place v e =
 
 -- for any other the room decides
 module _ (s : List ℕ) (b : Bytes s) (fine : verdictOf s ≡ Fine) (old new : List ℕ) (place : ℕ) (v w : Verdict) (is : v ≡ w)
-    (room : v ≡ roomFor (length s) (length old) place) (put : new ≡ areaWith v (encode (withState (fileIn s) (foundTable (parkIn (fileIn s))))) place old) where
+    (room : v ≡ roomFor (length s) (length old) place)
+    (put : (e : List Cell) → Exact (parkIn (fileIn s)) e → new ≡ areaWith v (encode (withState (fileIn s) e)) place old) where
   verdict-is : exactVerdict s (length old) place ≡ w
   unfolding exactVerdict _then_
   verdict-is = simp fine (sym room ∙ is)
 
-  area-is : (u : Verdict) → exactVerdict s (length old) place ≡ u → new ≡ areaWith u (encode (withState (fileIn s) (foundTable (parkIn (fileIn s))))) place old
-  area-is u e = put ∙ ap (λ (x : Verdict). areaWith x (encode (withState (fileIn s) (foundTable (parkIn (fileIn s))))) place old) (is ∙ sym verdict-is ∙ e)
+  area-is : (u : Verdict) → exactVerdict s (length old) place ≡ u → (e : List Cell) → Exact (parkIn (fileIn s)) e → new ≡ areaWith u (encode (withState (fileIn s) e)) place old
+  area-is u h e x = put e x ∙ ap (λ (y : Verdict). areaWith y (encode (withState (fileIn s) e)) place old) (is ∙ sym verdict-is ∙ h)
 
   pub exact-put : Exacted s old place (exactBy w) new
   unfolding areaWith
   exact-put =
-      record {
-        answer = ap exactBy (sym verdict-is);
-        kept = λ u e. area-is (Refused u) e;
-        written = λ e t x. area-is Fine e ∙ ap (λ (y : List Cell). areaWith Fine (encode (withState (fileIn s) y)) place old) (unique (fine-ok s b fine) (found-exact (fine-ok s b fine)) x);
-      }
+      let t = exists (fine-ok s b fine) in
+      record { answer = ap exactBy (sym verdict-is); kept = λ u h. area-is (Refused u) h (t .0) (t .1); written = λ h. area-is Fine h }
 
 -- any two outcomes that are allowed for a file and an area coincide
 pub exact-one : (s old : List ℕ) (place : ℕ) → Bytes s → (r r′ : ExactAnswer) (new new′ : List ℕ)
@@ -74,46 +71,40 @@ exact-one s old place b r r′ new new′ x y = (x .answer ∙ sym (y .answer), 
         x .written e (t .0) (t .1) ∙ sym (y .written e (t .0) (t .1))
     go (Refused v) e = x .kept v e ∙ sym (y .kept v e)
 
--- Slices that were taken from a file that is not refused hold its park; the table that is found in them is put into the area.
-module _ (s : List ℕ) (b : Bytes s) (fine : verdictOf s ≡ Fine) (links root : ℕ) (el : links ≡ linkCount s) (er : root ≡ rootIn s)
-    (ls hs cs ws ds ps ms : List ℕ) (before : Room (linkCount s) (nodesIn s) ls hs cs ws ds ps ms)
-    (ls′ hs′ cs′ ws′ : List ℕ) (after : Room (linkCount s) (nodesIn s) ls′ hs′ cs′ ws′ ds ps ms)
-    (tl : (ls′ ≡ column (big 2 s) 10 6 (length ls)) × (hs′ ≡ column (big 2 s) 12 6 (length hs)) × (cs′ ≡ column (big 2 s) 14 6 (length cs)))
-    (tg : ws′ ≡ column (little 8 s) (13 + 6 * links) 8 (length ws)) where
-  abbrev f : ParkFile
-  f = fileIn s
+-- lengths that belong together
+is-ready : (ls hs cs ds ps ms : ℕ) → hs ≡ ls → cs ≡ ls → ps ≡ ds → ms ≡ ds → ds ≤ 256 → ready ls hs cs ds ps ms ≡ true
+is-ready ls hs cs ds ps ms hl cl pd md few = simp (eq-eqb _ _ hl, eq-eqb _ _ cl, eq-eqb _ _ pd, eq-eqb _ _ md, le-leb _ _ few)
 
-  park-is : parkOf (length ds) root ls′ hs′ cs′ ws′ ≡ parkIn f
-  park-is = park-taken s fine b links el _ root _ _ _ _ ls′ hs′ cs′ ws′ (after .dists) er (before .lows, before .highs, before .costs) (before .words) tl tg
+-- the slices that a file is taken apart into, first parts of arrays that are lent again, hold its park: what is found in them is its exact table
+pub found-apart : (s : List ℕ) → Bytes s → verdictOf s ≡ Fine → (root l : ℕ) (zl ls zh hs zc cs ws d p m : List ℕ) → root ≡ rootIn s → l ≡ linkCount s
+    → (l ≤ length zl) × (l ≤ length zh) × (l ≤ length zc)
+    → (length ls ≡ length (take l zl)) × (length hs ≡ length (take l zh)) × (length cs ≡ length (take l zc))
+    → (ls ≡ column (big 2 s) 10 6 (length (take l zl))) × (hs ≡ column (big 2 s) 12 6 (length (take l zh))) × (cs ≡ column (big 2 s) 14 6 (length (take l zc)))
+    → ws ≡ column (little 8 s) (13 + 6 * l) 8 4
+    → (length d ≡ nodesIn s) × (length p ≡ nodesIn s) × (length m ≡ nodesIn s) × (length d ≤ 256)
+    → (t : Bool) (ds ps ms : List ℕ) → Found t root (take l (ls ++ drop l zl)) (take l (hs ++ drop l zh)) (take l (cs ++ drop l zc)) ws d p m ds ps ms
+    → Exact (parkIn (fileIn s)) (cellsOf ds ps ms)
+found-apart s b fine root l zl ls zh hs zc cs ws d p m er el few kept links group size t ds ps ms found =
+    let park = park-again s b fine l el zl ls zh hs zc cs few kept links _ root ws (size .0) er group in
+    let even = links-again s b fine l el zl ls zh hs zc cs few kept links in
+    let yes : t ≡ true = found .answer ∙ is-ready _ _ _ _ _ _ (even .0) (even .1) (size .1 ∙ sym (size .0)) (size .2 ∙ sym (size .0)) (size .3) in
+    let dists = found .dists ∙ (λ i. cond (yes i) (foundDists (park i)) d) in
+    let parents = found .parents ∙ (λ i. cond (yes i) (foundParents (park i)) p) in
+    let marks = found .marks ∙ (λ i. cond (yes i) (foundMarks (park i)) m) in
+    subst (Exact (parkIn (fileIn s))) (sym (λ i. cellsOf (dists i) (parents i) (marks i))) (found-exact (fine-ok s b fine))
 
-  is-ready : ready (length ls′) (length hs′) (length cs′) (length ds) (length ps) (length ms) ≡ true
-  is-ready =
-      let hl : length hs′ ≡ length ls′ = omega (arith, after .highs, after .lows) in
-      let cl : length cs′ ≡ length ls′ = omega (arith, after .costs, after .lows) in
-      let pd : length ps ≡ length ds = omega (arith, after .parents, after .dists) in
-      let md : length ms ≡ length ds = omega (arith, after .marks, after .dists) in
-      let few : length ds ≤ 256 = omega (arith, after .dists, file-read s fine .few) in
-      simp (eq-eqb _ _ hl, eq-eqb _ _ cl, eq-eqb _ _ pd, eq-eqb _ _ md, le-leb _ _ few)
-
-  module _ (t : Bool) (ds′ ps′ ms′ : List ℕ) (found : Found t root ls′ hs′ cs′ ws′ ds ps ms ds′ ps′ ms′) where
-    yes-found : t ≡ true
-    yes-found = found .answer ∙ is-ready
-
-    table-is : cellsOf ds′ ps′ ms′ ≡ foundTable (parkIn f)
-    table-is =
-        let d : ds′ ≡ foundDists (parkIn f) = found .dists ∙ (λ i. cond (yes-found i) (foundDists (park-is i)) ds) in
-        let p : ps′ ≡ foundParents (parkIn f) = found .parents ∙ (λ i. cond (yes-found i) (foundParents (park-is i)) ps) in
-        let m : ms′ ≡ foundMarks (parkIn f) = found .marks ∙ (λ i. cond (yes-found i) (foundMarks (park-is i)) ms) in
-        λ i. cellsOf (d i) (p i) (m i)
-
-    long : length (foundTable (parkIn f)) ≡ nodesIn s
-    unfolding parkIn
-    long = found-exact (fine-ok s b fine) .size ∙ sym (nodes-here s fine)
-
-    pub put-said : (old new : List ℕ) (place : ℕ) (v : Verdict)
-        → (v ≡ roomFor (length s) (length old) place) × (new ≡ areaWith v (sets s (48 + 6 * links) (stateBytes (cellsOf ds′ ps′ ms′))) place old)
-        → (v ≡ roomFor (length s) (length old) place) × (new ≡ areaWith v (encode (withState f (foundTable (parkIn f)))) place old)
-    put-said old new place v e =
-        let file : sets s (48 + 6 * links) (stateBytes (cellsOf ds′ ps′ ms′)) ≡ encode (withState f (foundTable (parkIn f))) =
-        (λ i. sets s (48 + 6 * el i) (stateBytes (table-is i))) ∙ state-file s (foundTable (parkIn f)) b fine long in
-        (e .0, e .1 ∙ ap (λ (l : List ℕ). areaWith v l place old) file)
+-- the exact table that was left in the first n of three arrays goes into the file, and a park has no other
+pub exact-placed : (s old new zd ds zp ps zm ms : List ℕ) (place n l : ℕ) (v : Verdict) → Bytes s → verdictOf s ≡ Fine → l ≡ linkCount s
+    → Exact (parkIn (fileIn s)) (cellsOf ds ps ms)
+    → (length ds ≡ length (take n zd)) × (length ps ≡ length (take n zp)) × (length ms ≡ length (take n zm))
+    → (n ≤ length zd) × (n ≤ length zp) × (n ≤ length zm)
+    → new ≡ areaWith v (sets s (48 + 6 * l) (stateBytes (cellsOf (take n (ds ++ drop n zd)) (take n (ps ++ drop n zp)) (take n (ms ++ drop n zm))))) place old
+    → (e : List Cell) → Exact (parkIn (fileIn s)) e → new ≡ areaWith v (encode (withState (fileIn s) e)) place old
+unfolding parkIn
+exact-placed s old new zd ds zp ps zm ms place n l v b fine el x kept few put e y =
+    let d = again n ds zd (kept .0) (few .0) in
+    let p = again n ps zp (kept .1) (few .1) in
+    let m = again n ms zm (kept .2) (few .2) in
+    let table = (λ i. cellsOf (d i) (p i) (m i)) ∙ unique (fine-ok s b fine) x y in
+    put ∙ (λ i. areaWith v (sets s (48 + 6 * el i) (stateBytes (table i))) place old)
+    ∙ ap (λ (f : List ℕ). areaWith v f place old) (state-file s e b fine (y .size ∙ sym (nodes-here s fine)))

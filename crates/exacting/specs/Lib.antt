@@ -1,2 +1,1 @@
 pub mod Exacting
-pub mod Found

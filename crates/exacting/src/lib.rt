@@ -6,12 +6,14 @@ ghost use mathlib.Core.Path.{_≡_};
 ghost use Prim.Native.Nat.{ℕ, _≤_};
 ghost use mathlib.Core.List.{List};
 ghost use lib.ListN.{length};
+ghost use Rattle.rule.specs.Round.{Cell};
+ghost use Rattle.rule.specs.Exact.{Exact};
+ghost use Rattle.slices.specs.Slices.{cellsOf};
 ghost use Rattle.park.specs.declared.answer.Verdict.the-variants.{Fine};
 ghost use Rattle.park.specs.ParkFile.{ParkFile, parkIn, encode, withState};
 ghost use Rattle.park.specs.Reading.{verdictOf, fileIn, nodesIn, rootIn, linkCount};
 ghost use Rattle.writing.specs.Area.{roomFor, areaWith};
 ghost use Rattle.exacting.specs.Exacting.{Exacted};
-ghost use Rattle.exacting.specs.Found.{Room, foundTable};
 
 // What Exact answers.
 pub enum ExactAnswer {
@@ -20,67 +22,67 @@ pub enum ExactAnswer {
     Refused(Refusal),
 }
 
-// Takes a checked file of as many links as are said apart, finds its table in the slices and puts the file with that table
-// into the area from a place on, or answers that there is no room for it.
-fn put_found(
+// Takes a checked file apart and finds its exact table, in room of its own: the table is left in the three lent slices.
+fn find_apart(
     file: &[u8],
-    links: u16,
     root: u16,
-    lows: &mut [u16],
-    highs: &mut [u16],
-    costs: &mut [u16],
-    words: &mut [u64],
+    links: u16,
     dists: &mut [u32],
     parents: &mut [u16],
     marks: &mut [u8],
-    area: &mut [u8],
-    place: usize,
-) -> Verdict
-    requires { ⌜ (verdictOf (now file) ≡ Fine) × (links ≡ linkCount (now file)) × (root ≡ rootIn (now file)) ⌝ }
-    requires { ⌜ Room (linkCount (now file)) (nodesIn (now file)) (now lows) (now highs) (now costs) (now words) (now dists) (now parents) (now marks) ⌝ }
-    ensures { λ r.
-        let f : ParkFile = fileIn (now (file .entry)) in
-        let old : List ℕ = now (area .entry) in
-        ⌜ (r ≡ roomFor (length (now (file .entry))) (length old) place)
-        × (now (area .exit) ≡ areaWith r (encode (withState f (foundTable (parkIn f)))) place old) ⌝ }
+)
+    requires { ⌜ (verdictOf (now file) ≡ Fine) × (root ≡ rootIn (now file)) × (links ≡ linkCount (now file)) × (links ≤ 1024) ⌝ }
+    requires { ⌜ (length (now dists) ≡ nodesIn (now file)) × (length (now parents) ≡ nodesIn (now file)) × (length (now marks) ≡ nodesIn (now file))
+        × (length (now dists) ≤ 256) ⌝ }
+    ensures { λ _. ⌜ Exact (parkIn (fileIn (now (file .entry)))) (cellsOf (now (dists .exit)) (now (parents .exit)) (now (marks .exit))) ⌝ }
 {
-    apart::take_links(file, lows, highs, costs);
-    apart::take_group(file, links, words);
-    exact::exact_table(root, lows, highs, costs, words, dists, parents, marks);
-    placing::put_with_state(file, links, dists, parents, marks, area, place)
+    let l = links as usize;
+    let mut lows = [0u16; 1024];
+    let mut highs = [0u16; 1024];
+    let mut costs = [0u16; 1024];
+    apart::take_links(file, &mut lows[..l], &mut highs[..l], &mut costs[..l]);
+    let mut words = [0u64; 4];
+    apart::take_group(file, links, &mut words);
+    exact::exact_table(
+        root,
+        &lows[..l],
+        &highs[..l],
+        &costs[..l],
+        &words,
+        dists,
+        parents,
+        marks,
+    );
 }
 
-// The same, with room of its own to work in.
+// Puts a checked file with its exact table into the area from a place on, or answers that there is no room for it.
 fn put_exact(file: &[u8], area: &mut [u8], place: usize) -> Verdict
     requires { ⌜ verdictOf (now file) ≡ Fine ⌝ }
     ensures { λ r.
         let f : ParkFile = fileIn (now (file .entry)) in
         let old : List ℕ = now (area .entry) in
         ⌜ (r ≡ roomFor (length (now (file .entry))) (length old) place)
-        × (now (area .exit) ≡ areaWith r (encode (withState f (foundTable (parkIn f)))) place old) ⌝ }
+        × ((e : List Cell) → Exact (parkIn f) e → now (area .exit) ≡ areaWith r (encode (withState f e)) place old) ⌝ }
 {
     let n = apart::nodes(file);
-    let count = apart::links(file);
-    let l = count as usize;
-    let root = wire::big16(file, 5);
-    let mut lows = [0u16; 1024];
-    let mut highs = [0u16; 1024];
-    let mut costs = [0u16; 1024];
-    let mut words = [0u64; 4];
+    let links = apart::links(file);
     let mut dists = [0u32; 256];
     let mut parents = [0u16; 256];
     let mut marks = [0u8; 256];
-    put_found(
+    find_apart(
         file,
-        count,
-        root,
-        &mut lows[..l],
-        &mut highs[..l],
-        &mut costs[..l],
-        &mut words,
+        wire::big16(file, 5),
+        links,
         &mut dists[..n],
         &mut parents[..n],
         &mut marks[..n],
+    );
+    placing::put_with_state(
+        file,
+        links,
+        &dists[..n],
+        &parents[..n],
+        &marks[..n],
         area,
         place,
     )

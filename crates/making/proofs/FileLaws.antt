@@ -1,13 +1,13 @@
 -- The file that a park's numbers make is the park's file, and numbers of a wrong count are refused as 3 where their field starts.
 use Prim.Native.Nat.{ℕ, _+_, _*_, _%_, _≤_, _<_}
 use mathlib.Core.Path.{_≡_, refl, ap, _∙_}
-use mathlib.Core.Bool.{Bool, true, false, _&&_}
+use mathlib.Core.Bool.{true, false}
 use mathlib.Core.List.{List, [], _∷_, _++_, map, append-assoc, append-nil}
 use native.Mathlib.Nat.{mul-mod-right}
 use native.Mathlib.Omega.{arith}
 use lib.ListN.{length, length-append, length-map}
-use lib.Dec.{leb, eqb, lit<}
-use borrow.Author.Tests.{le-leb, eq-eqb, eqb-true, leb-true}
+use lib.Dec.{eqb, lit<}
+use borrow.Author.Tests.{le-leb, eq-eqb, eqb-true}
 use Rattle.rule.specs.Round.{Link, Cell}
 use Rattle.wire.specs.Big.{bytesOf}
 use Rattle.wire.proofs.BigLaws.{Has, has-all, has-left, length-bytesOf}
@@ -18,9 +18,8 @@ use Rattle.slices.specs.Slices.{cellsOf}
 use Rattle.park.specs.Reading.{_then_, lengthAt, nodesIn, headIn, linksIn, groupIn, stateIn, verdictOf, readPark, park}
 use Rattle.park.proofs.FieldLaws.{field-written, has-behind, length-refused}
 use Rattle.park.proofs.RoundTrip.{encode-read, head-few}
-use Rattle.park.proofs.VerdictLaws.{and-true}
 use Rattle.making.specs.Making.{numbers, flat, stateRight, stateMade, groupMade, linksMade, fileOf}
-use Rattle.making.proofs.MakeLaws.{made-right, made-wrong, length-numbers}
+use Rattle.making.proofs.MakeLaws.{made-right, made-wrong, length-numbers, linksRight, links-few}
 
 numbers-flat : (ls : List Link) → numbers (flat ls) ≡ linkBytes ls
 unfolding numbers flat linkBytes
@@ -54,7 +53,7 @@ file-encode f ok =
     let len = length-flat (f .links) in
     let third : length (flat (f .links)) % 3 ≡ 0 = rw len (mul-mod-right 3 (length (f .links))) in
     let few : length (flat (f .links)) ≤ 3072 = omega (arith, len, ok .linkCount) in
-    let links : (eqb (length (flat (f .links)) % 3) 0 && leb (length (flat (f .links))) 3072) ≡ true = simp (eq-eqb _ _ third, le-leb _ _ few) in
+    let links : linksRight (flat (f .links)) ≡ true = simp (eq-eqb _ _ third, le-leb _ _ few) in
     let d : length ds ≡ n = length-map (f .state) (λ (c : Cell). c .dist) ∙ ok .stateSize in
     let p : length ps ≡ n = length-map (f .state) (λ (c : Cell). c .parent) ∙ ok .stateSize in
     let m : length ms ≡ n = length-map (f .state) (λ (c : Cell). c .mark) ∙ ok .stateSize in
@@ -62,7 +61,7 @@ file-encode f ok =
     let body : stateBytes (cellsOf ds ps ms) ≡ stateBytes (f .state) = ap stateBytes (cells-together (f .state)) in
     rw (made-right 4 (stateRight n ds ps ms) (stateBytes (cellsOf ds ps ms)) [] state, body, append-nil (field 4 (stateBytes (f .state))))
     (rw (made-right 3 (eqb (length (f .group)) 32) (f .group) (field 4 (stateBytes (f .state))) (eq-eqb _ _ (ok .groupSize)))
-    (rw (made-right 2 (eqb (length (flat (f .links)) % 3) 0 && leb (length (flat (f .links))) 3072) (numbers (flat (f .links))) (field 3 (f .group) ++ field 4 (stateBytes (f .state))) links, numbers-flat (f .links))))
+    (rw (made-right 2 (linksRight (flat (f .links))) (numbers (flat (f .links))) (field 3 (f .group) ++ field 4 (stateBytes (f .state))) links, numbers-flat (f .links))))
 
 -- write then read gives the same park
 pub write-read : (f : ParkFile) → ParkFileOk f → readPark (numbersFile f) ≡ park f
@@ -72,9 +71,6 @@ module _ (n root : ℕ) (links group ds ps ms : List ℕ) where
   abbrev s : List ℕ
   s = fileOf n root links group ds ps ms
 
-  abbrev linksRight : Bool
-  linksRight = eqb (length links % 3) 0 && leb (length links) 3072
-
   from2 : Has s 7 (linksMade links (groupMade group (stateMade n ds ps ms)))
   unfolding fileOf
   from2 =
@@ -82,17 +78,17 @@ module _ (n root : ℕ) (links group ds ps ms : List ℕ) where
       (simp (length-append, length-bytesOf))
 
   -- "more than 1,024 links .. is 3 at the place where that field starts"
-  pub links-wrong : linksRight ≡ false → headIn s ≡ Fine → verdictOf s ≡ Refused (Length 7)
+  pub links-wrong : linksRight links ≡ false → headIn s ≡ Fine → verdictOf s ≡ Refused (Length 7)
   unfolding verdictOf linksIn linksMade _then_
   links-wrong w h =
-      let e = made-wrong 2 linksRight (numbers links) (groupMade group (stateMade n ds ps ms)) w in
+      let e = made-wrong 2 (linksRight links) (numbers links) (groupMade group (stateMade n ds ps ms)) w in
       let r = length-refused 2 6 0 6144 (rw e at from2) (λ _. lit< tt) in
       simp (h, r)
 
-  module _ (right : linksRight ≡ true) where
+  module _ (right : linksRight links ≡ true) where
     from2-right : Has s 7 (field 2 (numbers links) ++ groupMade group (stateMade n ds ps ms))
     unfolding linksMade
-    from2-right = let e = made-right 2 linksRight (numbers links) (groupMade group (stateMade n ds ps ms)) right in rw e at from2
+    from2-right = let e = made-right 2 (linksRight links) (numbers links) (groupMade group (stateMade n ds ps ms)) right in rw e at from2
 
     from3 : Has s (10 + 2 * length links) (groupMade group (stateMade n ds ps ms))
     from3 =
@@ -101,7 +97,7 @@ module _ (n root : ℕ) (links group ds ps ms : List ℕ) where
 
     said : lengthAt s 7 ≡ 2 * length links
     said =
-        let few : length links ≤ 3072 = leb-true _ _ (and-true (eqb (length links % 3) 0) (leb (length links) 3072) right .1) in
+        let few : length links ≤ 3072 = links-few links right in
         let w = field-written 2 (numbers links) (has-left (field 2 (numbers links)) (groupMade group (stateMade n ds ps ms)) from2-right) (omega (arith, length-numbers links)) in
         w .said ∙ length-numbers links
 

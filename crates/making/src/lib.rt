@@ -1,9 +1,9 @@
 // The file that a park's numbers would make, put into lent bytes. Numbers that are too many or too few for their field
 // end the file there, with a length that Check refuses; nothing else is judged here. Places are in bytes.
 ghost use mathlib.Core.Path.{_≡_};
-ghost use mathlib.Core.Bool.{_&&_};
+ghost use mathlib.Core.Bool.{_&&_, cond};
 ghost use mathlib.Core.List.{List, _∷_};
-ghost use Prim.Native.Nat.{ℕ, _+_, _≤_, _<_};
+ghost use Prim.Native.Nat.{ℕ, _+_, _*_, _%_, _≤_, _<_};
 ghost use lib.ListN.{length};
 ghost use lib.Seq.{sets};
 ghost use lib.Dec.{leb, eqb};
@@ -33,23 +33,39 @@ fn put_head(out: &mut [u8], at: usize, tag: u8, size: u16)
     wire::put16(out, at + 1, size);
 }
 
-// Whether the state is of n nodes, and n is at most 256.
-fn right(n: usize, dists: usize, parents: usize, marks: usize) -> bool
-    ensures { λ r. ⌜ r ≡ (leb n 256 && (eqb dists n && (eqb parents n && eqb marks n))) ⌝ }
+// The length that the state's field says, in bytes, by how many distances, parents and marks there are; 65,535 where
+// they are not n each, or n is more than 256.
+fn state_size(nodes: u16, dists: usize, parents: usize, marks: usize) -> u16
+    ensures { λ r. ⌜ r ≡ cond (leb nodes 256 && (eqb dists nodes && (eqb parents nodes && eqb marks nodes))) (7 * nodes) 65535 ⌝ }
 {
-    if 256 < n {
-        return false;
+    if 256 < nodes {
+        return 65535;
     }
+    let n = nodes as usize;
     if dists != n {
-        return false;
+        return 65535;
     }
     if parents != n {
-        return false;
+        return 65535;
     }
     if marks != n {
-        return false;
+        return 65535;
     }
-    true
+    7 * nodes
+}
+
+// The length that the links' field says, in bytes, by how many numbers the links are; 65,535 where they are not three
+// numbers each, or more than 1,024.
+fn links_size(links: usize) -> u16
+    ensures { λ r. ⌜ r ≡ cond (eqb (links % 3) 0 && leb links 3072) (2 * links) 65535 ⌝ }
+{
+    if links % 3 != 0 {
+        return 65535;
+    }
+    if 3072 < links {
+        return 65535;
+    }
+    (2 * links) as u16
 }
 
 // Makes the state's field at a place and answers where it ends.
@@ -66,14 +82,13 @@ fn make_state(
         let made : List ℕ = stateMade nodes (now (dists .entry)) (now (parents .entry)) (now (marks .entry)) in
         ⌜ (now (out .exit) ≡ sets (now (out .entry)) at made) × (r ≡ at + length made) ⌝ }
 {
-    let n = wire::wide(nodes);
-    if right(n, dists.len(), parents.len(), marks.len()) {
-        put_head(out, at, 4, 7 * nodes);
-        storing::put_cells(out, at + 3, dists, parents, marks);
-        return at + 3 + 7 * n;
+    let size = state_size(nodes, dists.len(), parents.len(), marks.len());
+    put_head(out, at, 4, size);
+    if size == 65535 {
+        return at + 3;
     }
-    put_head(out, at, 4, 65535);
-    at + 3
+    storing::put_cells(out, at + 3, dists, parents, marks);
+    at + 3 + size as usize
 }
 
 // Makes the group's field at a place, and the state's behind it; answers where they end.
@@ -116,25 +131,13 @@ fn make_links(
         let made : List ℕ = linksMade (now (links .entry)) (groupMade (now (group .entry)) state) in
         ⌜ (now (out .exit) ≡ sets (now (out .entry)) 7 made) × (r ≡ 7 + length made) ⌝ }
 {
-    if links.len() % 3 != 0 {
-        put_head(out, 7, 2, 65535);
+    let size = links_size(links.len());
+    put_head(out, 7, 2, size);
+    if size == 65535 {
         return 10;
     }
-    if 3072 < links.len() {
-        put_head(out, 7, 2, 65535);
-        return 10;
-    }
-    put_head(out, 7, 2, (2 * links.len()) as u16);
     put_numbers(out, 10, links);
-    make_group(
-        out,
-        10 + 2 * links.len(),
-        nodes,
-        group,
-        dists,
-        parents,
-        marks,
-    )
+    make_group(out, 10 + size as usize, nodes, group, dists, parents, marks)
 }
 
 // Makes the file of the numbers from the start of `out`; answers its length, in bytes.

@@ -10,10 +10,10 @@ use Rattle.park.specs.declared.answer.Verdict.the-variants.{Fine, Refuse
 use Rattle.park.specs.declared.answer.Checked.{Checked}
 use Rattle.park.specs.declared.answer.Checked.the-variants.{Park, Refused as checkedRefused}
 use Rattle.park.specs.ParkFile.{ParkFile}
-use Rattle.park.specs.Reading.{refused, nodesIn, rootIn, linkCount, verdictOf, fileIn, park, readPark, checkOf}
+use Rattle.park.specs.Reading.{refused, nodesIn, linkCount, verdictOf, fileIn, park, readPark, checkOf}
 use Rattle.park.proofs.RecordLaws.{length-links}
 use Rattle.park.specs.declared.refusal.Refusal.{Refusal}
-use Rattle.park.proofs.RoundTrip.{length-encode, read-fine, read-then-encode}
+use Rattle.park.proofs.RoundTrip.{length-encode, read-then-encode}
 
 -- a file that Check accepts is read as a park, of the nodes and the links that Check answers
 pub checked-park : (s : List ℕ) (n l : ℕ) → Bytes s → checkOf s ≡ Park n l
@@ -59,10 +59,3 @@ checked-refused s r e = go (verdictOf s) refl
         let q : _≡_ {A = Checked} (checkedRefused x) (checkedRefused r) = rw p at e in
         let y : x ≡ r = cc in
         simp (p, y)
-
--- the nodes and the root of the park that a file is read as
-pub head-read : (s : List ℕ) (f : ParkFile) → readPark s ≡ park f → (nodesIn s ≡ f .nodes) × (rootIn s ≡ f .root)
-unfolding fileIn
-head-read s f e =
-    let p = read-fine s f e .1 in
-    (ap (λ (g : ParkFile). g .nodes) p, ap (λ (g : ParkFile). g .root) p)

@@ -1,13 +1,13 @@
 -- The search of one node gives the parent by distances: its arc kept is the one that the rule names.
 use Prim.Native.Nat.{ℕ}
-use mathlib.Core.Path.{_≡_, refl, sym, ap, _∙_, subst}
+use mathlib.Core.Path.{_≡_, refl, sym, ap, _∙_}
 use mathlib.Core.Logic.{inl}
-use mathlib.Core.Bool.{Bool, true, false, cond, _||_, true≢false}
+use mathlib.Core.Bool.{Bool, true, false, cond, true≢false}
 use mathlib.Core.List.{List}
 use lib.Dec.{eqb}
 use borrow.Author.Tests.{ne-eqb}
 use Rattle.measure.specs.Measure.{ceiling}
-use Rattle.rule.specs.Round.{Link, least, giving, chosen, newDist, parentAt, arcsOf}
+use Rattle.rule.specs.Round.{Link, giving, chosen, newDist, parentAt, arcsOf}
 use Rattle.rule.proofs.OnePassLaws.{kept-from}
 use Rattle.rule.proofs.ParentLaws.{parent-none}
 use Rattle.hearing.specs.declared.Best.{Best}

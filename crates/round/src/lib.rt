@@ -10,7 +10,7 @@ ghost use mathlib.Core.Path.{_≡_};
 ghost use Prim.Native.Nat.{_+_, _<_};
 ghost use lib.ListN.{length, set};
 ghost use Rattle.rule.specs.Round.{Cell};
-ghost use Rattle.tables.specs.Fit.{fits, Together, Holds, Written};
+ghost use Rattle.tables.specs.Fit.{fits, Together, Written};
 ghost use Rattle.round.specs.Table.{cellAfter, roundOf};
 
 // Writes what the node at place `at` of the old table holds after the round. Only old values are read.
@@ -55,48 +55,6 @@ fn write_cell(
     new_marks[at] = cell.mark;
 }
 
-// Writes the round of the stored table into the three new slices, node by node.
-fn write_round(
-    root: u16,
-    lows: &[u16],
-    highs: &[u16],
-    costs: &[u16],
-    words: &[u64],
-    dists: &[u32],
-    parents: &[u16],
-    marks: &[u8],
-    new_dists: &mut [u32],
-    new_parents: &mut [u16],
-    new_marks: &mut [u8],
-)
-    requires { ⌜ Together (now lows) (now highs) (now costs)
-        (now dists) (now parents) (now marks)
-        (now «new_dists») (now «new_parents») (now «new_marks») ⌝ }
-    ensures { λ _. ⌜ Holds
-        (roundOf root (now (lows .entry)) (now (highs .entry)) (now (costs .entry)) (now (words .entry))
-        (now (dists .entry)) (now (parents .entry)) (now (marks .entry)))
-        (now («new_dists» .exit)) (now («new_parents» .exit)) (now («new_marks» .exit)) ⌝ }
-{
-    let mut at = 0;
-    while at < dists.len() {
-        write_cell(
-            at,
-            root,
-            lows,
-            highs,
-            costs,
-            words,
-            dists,
-            parents,
-            marks,
-            new_dists,
-            new_parents,
-            new_marks,
-        );
-        at += 1;
-    }
-}
-
 // One round of all nodes together, from the stored table into the three new slices. Answers whether the slices belong together; where they
 // do not, nothing is written. Distances and costs are in cost units, `root` and parents are node numbers; the park has as many nodes as there
 // are distances.
@@ -136,19 +94,24 @@ pub fn one_round(
         new_parents.len(),
         new_marks.len(),
     ) {
-        write_round(
-            root,
-            lows,
-            highs,
-            costs,
-            words,
-            dists,
-            parents,
-            marks,
-            new_dists,
-            new_parents,
-            new_marks,
-        );
+        let mut at = 0;
+        while at < dists.len() {
+            write_cell(
+                at,
+                root,
+                lows,
+                highs,
+                costs,
+                words,
+                dists,
+                parents,
+                marks,
+                new_dists,
+                new_parents,
+                new_marks,
+            );
+            at += 1;
+        }
         return true;
     }
     false

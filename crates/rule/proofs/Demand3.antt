@@ -4,25 +4,24 @@ use Prim.Native.Nat.{ℕ, zero, suc, _+_, _*_, _/_, _≤_, _<_, max}
 use native.Mathlib.Nat.{le-refl, le-trans, le-of-eq, le-suc, lt-of-lt-of-le, lt-of-le-of-lt, mul-le-mul-left, mul-le-mul-right, mul-comm, lt-mul-div-succ, le-max-left, le-max-right, one-mul}
 use native.Mathlib.Omega.{arith}
 use mathlib.Core.Path.{_≡_, refl, sym, ap, _∙_, subst, fun-ext}
-use mathlib.Core.Logic.{_⊎_, inl, inr, ⊎-elim, _↔_}
+use mathlib.Core.Logic.{⊎-elim, _↔_}
 use mathlib.Core.Bool.{Bool, true, false, cond, _&&_}
 use mathlib.Core.List.{List, [], _∷_, List·Memᴰ, List·Memᴰ·not-nil}
-use borrow.Author.Tests.{ltb-true, ltb-false, lt-ltb}
+use borrow.Author.Tests.{ltb-false}
 use lib.Dec.{T, ltb, leb}
 use lib.ListN.{length, getD}
 use Rattle.measure.specs.Measure.{ceiling}
-use Rattle.rule.specs.Round.{Arc, Net, Cell, Link, Park, newCell, newMark, blank, at, round, rounds, arcsOf, netOf}
-use Rattle.rule.specs.Exact.{Node, ExactDist, ExactParent, ExactMark, ExactCell, Exact}
+use Rattle.rule.specs.Round.{Arc, Cell, Link, Park, newCell, blank, at, round, rounds, arcsOf, netOf}
+use Rattle.rule.specs.Exact.{Node, ExactParent, ExactMark, Exact}
 use Rattle.rule.specs.Settles.{ParkOk, leastCost, reachable, farthest, after, Settles}
-use Rattle.rule.proofs.Sound.{Within, Sound}
-use Rattle.rule.proofs.OfferLaws.{below?}
+use Rattle.rule.proofs.Sound.{Within}
 use Rattle.rule.proofs.CountLaws.{count, count-same, count-shift, count-mono}
 use Rattle.rule.proofs.ContractionLaws.{Solves}
-use Rattle.rule.proofs.DistanceLaws.{dist-unique, solved-le, solved-exact, real-most}
+use Rattle.rule.proofs.DistanceLaws.{dist-unique, solved-le, real-most}
 use Rattle.rule.proofs.ParentLaws.{parent-unique}
 use Rattle.rule.proofs.MarkLaws.{mark-same, mark-unique, rank}
 use Rattle.rule.proofs.NetLaws.{sound}
-use Rattle.rule.proofs.TableLaws.{within?, at-round, at-blank, at-round-all, length-round, table-same}
+use Rattle.rule.proofs.TableLaws.{within?, at-blank, at-round-all, length-round, table-same}
 use Rattle.rule.proofs.RoundsLaws.{dists, parents, marks, Still, still, still-exact, held, dist-met, parent-met, mark-met, mark-cut, rests-table}
 
 -- the number of nodes with a path, counted by number

@@ -1,20 +1,20 @@
 -- Distances that a round leaves alone are the exact ones, and every real distance is far below the ceiling.
 -- Paths are needed only here: to tie the round's own equations to "the least cost of any path".
 use Prim.Native.Nat.{ℕ, zero, suc, _+_, _*_, _≤_, _<_}
-use native.Mathlib.Nat.{le-refl, le-trans, le-of-eq, le-antisymm, lt-of-lt-of-le}
+use native.Mathlib.Nat.{le-refl, le-trans, le-of-eq, le-antisymm}
 use native.Mathlib.Omega.{arith}
-use mathlib.Core.Path.{_≡_, refl, sym, ap, _∙_, subst}
-use mathlib.Core.Logic.{_⊎_, inl, inr, ⊎-elim}
+use mathlib.Core.Path.{_≡_, sym, ap, _∙_, subst}
+use mathlib.Core.Logic.{⊎-elim}
 use mathlib.Core.List.{List·Memᴰ}
 use borrow.Author.Tests.{lt-ltb, le-ltb}
-use lib.Dec.{T, ltb, ltb→lt, lt→ltb}
+use lib.Dec.{ltb, ltb→lt, lt→ltb}
 use Rattle.measure.specs.Measure.{ceiling, largestCost}
 use Rattle.rule.specs.Round.{Arc, Net, through, least, newDist}
 use Rattle.rule.specs.Exact.{Route, here, hop, ExactDist, reached, cut}
 use Rattle.rule.proofs.Sound.{Within, Sound}
 use Rattle.rule.proofs.ContractionLaws.{Solves}
 use Rattle.rule.proofs.CountLaws.{count, count-less, count-more}
-use Rattle.rule.proofs.OfferLaws.{same?, below?, through-sum, through-small, through-exact, through-le, least-lower, least-offered, least-great, newDist-root, newDist-other, newDist-le}
+use Rattle.rule.proofs.OfferLaws.{same?, below?, through-sum, through-small, least-lower, least-offered, least-great, newDist-root, newDist-other, newDist-le}
 
 -- one distance at most is exact
 pub dist-unique : {N : Net} {i d e : ℕ} → ExactDist N i d → ExactDist N i e → d ≡ e

@@ -1,23 +1,23 @@
 -- Forwarding marks come to rest from the farthest nodes inwards, and what they come to is the exact mark.
 -- The rank of a node counts the reachable nodes that are as far or farther: a node that names it parent has a lower rank, and each rank is one round later.
-use Prim.Native.Nat.{ℕ, zero, suc, _+_, _*_, _≤_, _<_}
-use native.Mathlib.Nat.{le-refl, le-trans, add-suc}
+use Prim.Native.Nat.{ℕ, zero, suc, _+_, _≤_, _<_}
+use native.Mathlib.Nat.{le-refl, le-trans}
 use native.Mathlib.Omega.{arith}
 use mathlib.Core.Path.{_≡_, refl, sym, ap, _∙_, subst}
 use mathlib.Core.Logic.{_⊎_, inl, inr, ⊎-elim}
 use mathlib.Core.Bool.{Bool, true, false, cond, not, _&&_, _||_}
 use mathlib.Core.List.{List, [], _∷_, List·Memᴰ, List·Memᴰ·head, List·Memᴰ·tail, List·Memᴰ·cases-cons, List·Memᴰ·not-nil}
-use borrow.Author.Tests.{eqb-true, eqb-false, eq-eqb, ne-eqb, lt-ltb, le-ltb, le-leb, lt-leb}
-use lib.Dec.{T, eqb, leb, ltb, leb→le, le→leb}
-use Rattle.measure.specs.Measure.{ceiling, largestCost}
+use borrow.Author.Tests.{eqb-true, eqb-false, eq-eqb, ne-eqb, lt-ltb, le-leb, lt-leb}
+use lib.Dec.{T, eqb, leb, ltb, leb→le}
+use Rattle.measure.specs.Measure.{ceiling}
 use Rattle.rule.specs.Round.{Arc, Net, asked, newMark}
-use Rattle.rule.specs.Exact.{ExactParent, noParent, byArc, onward, Needed, own, onWay, ExactMark, set, clear}
+use Rattle.rule.specs.Exact.{ExactParent, onward, Needed, own, onWay, ExactMark, set, clear}
 use Rattle.rule.proofs.Sound.{Within, Sound}
-use Rattle.rule.proofs.OfferLaws.{same?, below?}
+use Rattle.rule.proofs.OfferLaws.{below?}
 use Rattle.rule.proofs.ContractionLaws.{Solves}
-use Rattle.rule.proofs.CountLaws.{count, count-more, count-less}
+use Rattle.rule.proofs.CountLaws.{count, count-more}
 use Rattle.rule.proofs.DistanceLaws.{solved-le, solved-lower, solved-node, real-most}
-use Rattle.rule.proofs.ParentLaws.{parent-arc, parent-unique}
+use Rattle.rule.proofs.ParentLaws.{parent-arc}
 
 -- node j names i its parent and has its mark set
 abbrev pub Asks : (ℕ → ℕ) → (ℕ → ℕ) → ℕ → ℕ → Type 0

@@ -1,15 +1,14 @@
 -- The network of a park is sound: each arc is one direction of a link, so ends, costs and the way back come from the links.
-use Prim.Native.Nat.{ℕ, zero, suc, _≤_, _<_, min}
-use native.Mathlib.Nat.{le-refl, le-trans, le-min, min-le-left, min-le-right, le-of-eq}
+use Prim.Native.Nat.{ℕ, _≤_}
+use native.Mathlib.Nat.{le-trans, le-min, min-le-left, min-le-right, le-of-eq}
 use native.Mathlib.Omega.{arith}
 use mathlib.Core.Path.{_≡_, refl, sym, ap, _∙_, subst}
 use mathlib.Core.Logic.{_⊎_, inl, inr, ⊎-elim}
 use mathlib.Core.Bool.{Bool, true, false, cond}
 use mathlib.Core.List.{List, [], _∷_, List·Memᴰ, List·Memᴰ·head, List·Memᴰ·tail, List·Memᴰ·cases-cons, List·Memᴰ·not-nil}
-use borrow.Author.Tests.{eqb-true, eqb-false, eq-eqb, ne-eqb}
-use lib.Dec.{T, eqb}
-use Rattle.measure.specs.Measure.{ceiling, largestCost}
-use Rattle.rule.specs.Round.{Arc, Net, Link, Park, arcsOf, netOf}
+use borrow.Author.Tests.{eqb-true, eqb-false}
+use lib.Dec.{eqb}
+use Rattle.rule.specs.Round.{Arc, Link, Park, arcsOf, netOf}
 use Rattle.rule.specs.Exact.{Node}
 use Rattle.rule.specs.Settles.{ParkOk, leastCost}
 use Rattle.rule.proofs.Sound.{Within, Sound}

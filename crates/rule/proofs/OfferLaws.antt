@@ -1,15 +1,15 @@
 -- What an arc offers, and the least that a node's arcs offer: the laws by which the rest of the theory speaks of them.
-use Prim.Native.Nat.{ℕ, zero, suc, _+_, _≤_, _<_, min}
+use Prim.Native.Nat.{ℕ, _+_, _≤_, _<_, min}
 use native.Mathlib.Nat.{le-refl, le-of-eq, le-trans, min-le-left, min-le-right, le-min}
 use native.Mathlib.Omega.{arith}
-use mathlib.Core.Path.{_≡_, refl, sym, ap, _∙_, subst}
+use mathlib.Core.Path.{_≡_, refl, sym, ap, _∙_}
 use mathlib.Core.Logic.{_⊎_, inl, inr, ⊎-elim}
 use mathlib.Core.Bool.{Bool, true, false, cond}
 use mathlib.Core.List.{List, [], _∷_, List·Memᴰ, List·Memᴰ·head, List·Memᴰ·tail, List·Memᴰ·cases-cons, List·Memᴰ·not-nil}
 use borrow.Author.Tests.{eqb-true, eqb-false, eq-eqb, ne-eqb, ltb-true, ltb-false}
 use lib.Dec.{eqb, ltb}
 use Rattle.measure.specs.Measure.{ceiling, plus}
-use Rattle.rule.specs.Round.{Arc, Net, through, least, giving, newDist, parentAt, chosen}
+use Rattle.rule.specs.Round.{Arc, Net, through, least, giving, newDist}
 
 -- two numbers are equal or they are not
 pub same? : (a b : ℕ) → (a ≡ b) ⊎ (a ≡ b → ⊥)
@@ -39,9 +39,6 @@ plus-small d c h = omega arith
 
 pub plus-exact : (d c : ℕ) → d + c ≤ ceiling → plus d c ≡ d + c
 plus-exact d c h = omega arith
-
-pub plus-mono : (d e c : ℕ) → d ≤ e → plus d c ≤ plus e c
-plus-mono d e c h = omega arith
 
 module _ (D : ℕ → ℕ) where
   pub through-le : (a : Arc) → through D a ≤ ceiling

@@ -1,18 +1,18 @@
 -- The parent that a round gives by exact distances is the exact parent, and a run's parents are exact as soon as its distances are.
 -- A parent is a function of the arcs that give exactly the least, so it is enough that those lists agree, whatever the tie rule.
-use Prim.Native.Nat.{ℕ, zero, suc, _+_, _*_, _≤_, _<_}
-use native.Mathlib.Nat.{le-refl, le-of-eq, lt-of-le-of-lt, suc-mul}
+use Prim.Native.Nat.{ℕ, suc, _+_, _*_, _≤_, _<_}
+use native.Mathlib.Nat.{suc-mul}
 use native.Mathlib.Omega.{arith}
-use mathlib.Core.Path.{_≡_, refl, sym, ap, _∙_, subst}
+use mathlib.Core.Path.{_≡_, refl, sym, ap, _∙_}
 use mathlib.Core.Logic.{_⊎_, inl, inr, ⊎-elim}
 use mathlib.Core.Bool.{Bool, true, false, cond, _||_}
 use mathlib.Core.List.{List·Memᴰ}
 use borrow.Author.Tests.{eq-eqb, ne-eqb}
-use lib.Dec.{T, eqb}
-use Rattle.measure.specs.Measure.{ceiling, largestCost, plus}
-use Rattle.rule.specs.Round.{Arc, Net, through, giving, before, chosen, parentAt}
+use lib.Dec.{eqb}
+use Rattle.measure.specs.Measure.{ceiling, plus}
+use Rattle.rule.specs.Round.{Arc, Net, through, giving, chosen, parentAt}
 use Rattle.rule.specs.Exact.{ExactParent, noParent, byArc}
-use Rattle.rule.proofs.Sound.{Within, Sound}
+use Rattle.rule.proofs.Sound.{Sound}
 use Rattle.rule.proofs.TieLaws.{First, chosen-first, before-both}
 use Rattle.rule.proofs.OfferLaws.{same?, through-small, through-exact, giving-in, giving-has, giving-same}
 use Rattle.rule.proofs.ContractionLaws.{Solves, Run, agree, meets}

@@ -1,15 +1,14 @@
 -- The rounds of a stored table, read as runs of distances, parents and marks, meet whatever a round leaves alone; and they come to rest.
 use Prim.Native.Nat.{ℕ, zero, suc, _+_, _*_, _≤_, _<_}
-use native.Mathlib.Nat.{le-refl, le-trans, lt-of-lt-of-le, mul-le-mul-right, zero-mul, add-suc}
+use native.Mathlib.Nat.{lt-of-lt-of-le, mul-le-mul-right, zero-mul}
 use native.Mathlib.Omega.{arith}
 use mathlib.Core.Path.{_≡_, refl, sym, ap, _∙_, subst}
-use mathlib.Core.Logic.{_⊎_, inl, inr, ⊎-elim}
+use mathlib.Core.Logic.{⊎-elim}
 use mathlib.Core.List.{List}
-use lib.ListN.{length}
 use Rattle.measure.specs.Measure.{ceiling}
-use Rattle.rule.specs.Round.{Net, Cell, newDist, parentAt, newMark, newCell, at, round, rounds}
+use Rattle.rule.specs.Round.{Net, Cell, parentAt, newMark, newCell, at, round, rounds}
 use Rattle.rule.specs.Exact.{ExactParent, ExactCell}
-use Rattle.rule.proofs.Sound.{Within, Sound}
+use Rattle.rule.proofs.Sound.{Sound}
 use Rattle.rule.proofs.OfferLaws.{below?}
 use Rattle.rule.proofs.CountLaws.{count-le}
 use Rattle.rule.proofs.ContractionLaws.{Solves, Run, meets, rests}

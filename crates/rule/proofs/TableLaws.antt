@@ -1,17 +1,16 @@
 -- Tables and the functions that they stand for: after a round every number, node or not, holds what the rule gives it.
 use Prim.Native.Nat.{ℕ, zero, suc, _+_, _≤_, _<_}
-use native.Mathlib.Nat.{add-zero, add-suc, suc-add, le-refl}
+use native.Mathlib.Nat.{add-zero, add-suc, suc-add}
 use native.Mathlib.Omega.{arith}
 use mathlib.Core.Path.{_≡_, refl, sym, ap, _∙_, subst}
 use mathlib.Core.Logic.{_⊎_, inl, inr, ⊎-elim}
 use mathlib.Core.Bool.{Bool, true, false, cond, _||_}
 use mathlib.Core.List.{List, [], _∷_, map, List·Memᴰ, List·Memᴰ·head}
-use borrow.Author.Tests.{eq-eqb, ne-eqb}
 use lib.Dec.{T}
 use lib.ListN.{length, getD, List·getD-eq-default}
 use lib.Seq.{ext-getD}
 use Rattle.measure.specs.Measure.{ceiling}
-use Rattle.rule.specs.Round.{Arc, Net, Cell, least, newDist, parentAt, asked, newMark, newCell, blank, at, numbered, round, rounds}
+use Rattle.rule.specs.Round.{Arc, Net, Cell, least, newDist, asked, newMark, newCell, blank, at, numbered, round}
 use Rattle.rule.proofs.Sound.{Within, Sound}
 use Rattle.rule.proofs.OfferLaws.{below?, newDist-other}
 use Rattle.rule.proofs.ParentLaws.{parent-none}

@@ -1,13 +1,13 @@
 -- The tie rule `before` is total, transitive and tells senders apart, and so the chosen arc is the one before all others.
 -- Nothing else in the theory looks into `before`.
-use Prim.Native.Nat.{ℕ, _<_}
+use Prim.Native.Nat.{_<_}
 use native.Mathlib.Omega.{arith}
-use mathlib.Core.Path.{_≡_, refl, sym, ap, _∙_, subst}
+use mathlib.Core.Path.{_≡_, refl, sym, subst}
 use mathlib.Core.Logic.{_⊎_, inl, inr, ⊎-elim}
-use mathlib.Core.Bool.{Bool, true, false, cond, not}
+use mathlib.Core.Bool.{Bool, true, false, cond}
 use mathlib.Core.List.{List, [], _∷_, List·Memᴰ, List·Memᴰ·head, List·Memᴰ·tail, List·Memᴰ·cases-cons, List·Memᴰ·not-nil}
 use borrow.Author.Tests.{leb-false, lt-leb}
-use lib.Dec.{T, leb, leb→le, le→leb}
+use lib.Dec.{T, leb→le, le→leb}
 use Rattle.rule.specs.Round.{Arc, before, first, chosen}
 
 pub before-refl : (a : Arc) → T (before a a)

@@ -2,7 +2,7 @@
 -- The rule is stated over what a node hears, so it holds for links of any order and number and for any node count.
 -- Distances and costs are in cost units; nodes are numbered from 1, and 0 is no node.
 use Prim.Native.Nat.{ℕ, zero, suc, min}
-use mathlib.Core.Bool.{Bool, true, false, cond, not, _&&_, _||_}
+use mathlib.Core.Bool.{Bool, false, cond, not, _&&_, _||_}
 use mathlib.Core.List.{List, [], _∷_, map}
 use lib.ListN.{getD}
 use lib.Dec.{leb, eqb}

@@ -2,12 +2,12 @@
 -- Costs are in cost units, bounds in rounds.
 use Prim.Native.Nat.{ℕ, suc, _+_, _/_, _≤_, _<_, min, max}
 use mathlib.Core.Path.{_≡_}
-use mathlib.Core.Bool.{Bool, cond}
+use mathlib.Core.Bool.{cond}
 use mathlib.Core.List.{List, [], _∷_, List·Memᴰ}
 use lib.Dec.{T, ltb}
 use Rattle.measure.specs.Measure.{ceiling, largestCost}
-use Rattle.rule.specs.Round.{Arc, Cell, Link, Park, at, rounds, netOf}
-use Rattle.rule.specs.Exact.{Node, Exact}
+use Rattle.rule.specs.Round.{Cell, Link, Park, at, rounds, netOf}
+use Rattle.rule.specs.Exact.{Node}
 
 -- "Nodes 1 to n, with n from 1 to 256. One node is the root. Links, each between two different nodes, with one cost from 1 to 65,535.
 -- The group: any set of nodes." Neither the number nor the order of the links matters, nor that a pair has one link.

@@ -10,8 +10,8 @@ use lib.Dec.{eqb}
 use borrow.Author.Tests.{eqb-true, eq-eqb}
 use Rattle.rule.specs.Round.{Net, Cell, round, netOf}
 use Rattle.slices.specs.Slices.{cellsOf, parkOf}
-use Rattle.run.specs.declared.Ran.{Ran}
-use Rattle.tables.specs.Fit.{Holds, Written}
+use Rattle.tables.specs.Fit.{fitting, fits, Together, Holds, Written}
+use Rattle.tables.proofs.FitLaws.{fit-true, SameLengths, written}
 use Rattle.round.specs.Table.{roundOf}
 use Rattle.slices.specs.Slices.{distsOf, parentsOf, marksOf}
 use Rattle.tables.specs.Same.{sameSlices, sameTable}
@@ -130,9 +130,96 @@ module _ (root : ℕ) (ls hs cs ws ds₀ ps₀ ms₀ ds ps ms : List ℕ) (count
             ∙ s .run;
       }
 
--- the answer, by whether the slices belong together
-pub ran : (fit : Bool) (o : Outcome) (r : Ran) → fit ≡ true → r ≡ ranOf true o → r ≡ ranOf fit o
-ran fit o r e h = h ∙ ap (λ (b : Bool). ranOf b o) (sym e)
+-- where a run over any slices stands: those that belong together are running, and others are as they were
+pub record Going (root : ℕ) (ls hs cs ws ds₀ ps₀ ms₀ nd₀ np₀ nm₀ ds ps ms nd np nm : List ℕ) (count left done : ℕ) : Type 0 where
+  pub table : SameLengths ds₀ ps₀ ms₀ ds ps ms
+  pub next : SameLengths nd₀ np₀ nm₀ nd np nm
+  pub running : fits ls hs cs ds₀ ps₀ ms₀ nd₀ np₀ nm₀ ≡ true → Running root ls hs cs ws ds₀ ps₀ ms₀ ds ps ms count left done
+  pub still : fits ls hs cs ds₀ ps₀ ms₀ nd₀ np₀ nm₀ ≡ false → (ds ≡ ds₀) × (ps ≡ ps₀) × (ms ≡ ms₀) × (nd ≡ nd₀) × (np ≡ np₀) × (nm ≡ nm₀)
 
-pub not-ran : (fit : Bool) (o : Outcome) → fit ≡ false → record { fit = false; rounds = record { 0 = 0 }; quiet = false } ≡ ranOf fit o
-not-ran fit o e = ap (λ (b : Bool). ranOf b o) (sym e)
+pub starts : (root : ℕ) (ls hs cs ws ds ps ms nd np nm : List ℕ) (count : ℕ) → Going root ls hs cs ws ds ps ms nd np nm ds ps ms nd np nm count count 0
+starts root ls hs cs ws ds ps ms nd np nm count =
+    record {
+      table = record { dists = refl; parents = refl; marks = refl };
+      next = record { dists = refl; parents = refl; marks = refl };
+      running = λ e. record { nodes = refl; counts = omega arith; run = refl };
+      still = λ e. (refl, refl, refl, refl, refl, refl);
+    }
+
+module _ {root : ℕ} {ls hs cs ws ds₀ ps₀ ms₀ nd₀ np₀ nm₀ ds ps ms nd np nm : List ℕ} {count left done : ℕ}
+    (s : Going root ls hs cs ws ds₀ ps₀ ms₀ nd₀ np₀ nm₀ ds ps ms nd np nm count left done) where
+  abbrev fit₀ : Bool
+  fit₀ = fits ls hs cs ds₀ ps₀ ms₀ nd₀ np₀ nm₀
+
+  abbrev fit : Bool
+  fit = fits ls hs cs ds ps ms nd np nm
+
+  abbrev comes : Outcome
+  comes = runFrom count 0 root ls hs cs ws ds₀ ps₀ ms₀
+
+  abbrev after : List Cell
+  after = nextAfter count root ls hs cs ws ds₀ ps₀ ms₀
+
+  -- the lengths stay, and with them whether the slices belong together
+  fit-same : fit ≡ fit₀
+  fit-same =
+      λ i. fitting (length ls) (length hs) (length cs) (s .table .dists i) (s .table .parents i) (s .table .marks i) (s .next .dists i) (s .next .parents i) (s .next .marks i)
+
+  -- a turn whose round was not done, and one whose round was
+  module _ {nd′ np′ nm′ : List ℕ} (w : Written fit (roundOf root ls hs cs ws ds ps ms) nd np nm nd′ np′ nm′) where
+    pub stopped : fit ≡ false
+        → (record { fit = false; rounds = record { 0 = 0 }; quiet = false } ≡ ranOf fit₀ comes)
+        × Written fit₀ (comes .table) ds₀ ps₀ ms₀ ds ps ms × Written fit₀ after nd₀ np₀ nm₀ nd′ np′ nm′
+    stopped e =
+        let z : fit₀ ≡ false = sym fit-same ∙ e in
+        let k = s .still z in (
+          ap (λ (b : Bool). ranOf b comes) (sym z),
+          rw z (record { dists = k .0; parents = k .1; marks = k .2 }),
+          rw z
+              (record {
+                dists = w .dists ∙ ap (λ (b : Bool). cond b (distsOf (roundOf root ls hs cs ws ds ps ms)) nd) e ∙ k .3;
+                parents = w .parents ∙ ap (λ (b : Bool). cond b (parentsOf (roundOf root ls hs cs ws ds ps ms)) np) e ∙ k .4;
+                marks = w .marks ∙ ap (λ (b : Bool). cond b (marksOf (roundOf root ls hs cs ws ds ps ms)) nm) e ∙ k .5;
+              }),
+        )
+
+    module _ (e : fit ≡ true) where
+      z : fit₀ ≡ true
+      z = sym fit-same ∙ e
+
+      pub together : Together ls hs cs ds ps ms nd np nm
+      together = fit-true ls hs cs ds ps ms nd np nm e
+
+      pub counted : left + done ≡ count
+      counted = s .running z .counts
+
+      h : Holds (roundOf root ls hs cs ws ds ps ms) nd′ np′ nm′
+      h = held fit (roundOf root ls hs cs ws ds ps ms) nd np nm nd′ np′ nm′ e w
+
+      module _ {q : Bool} (eq : q ≡ sameSlices nd′ np′ nm′ ds ps ms) where
+        is-quiet : q ≡ quiet (netOf (parkOf (length ds) root ls hs cs ws)) (length ds) (cellsOf ds ps ms)
+        unfolding quiet
+        is-quiet = eq ∙ same-held (roundOf root ls hs cs ws ds ps ms) nd′ np′ nm′ ds ps ms h (together .table)
+
+        pub ran : (q || eqb left 0) ≡ true
+            → (record { fit = true; rounds = record { 0 = done }; quiet = q } ≡ ranOf fit₀ comes)
+            × Written fit₀ (comes .table) ds₀ ps₀ ms₀ ds ps ms × Written fit₀ after nd₀ np₀ nm₀ nd′ np′ nm′
+        ran t =
+            let r = s .running z in (
+              ended root ls hs cs ws ds₀ ps₀ ms₀ ds ps ms count left done r q is-quiet t ∙ ap (λ (b : Bool). ranOf b comes) (sym z),
+              written fit₀ (comes .table) ds₀ ps₀ ms₀ ds ps ms z (ended-table root ls hs cs ws ds₀ ps₀ ms₀ ds ps ms count left done r q is-quiet t (together .table)),
+              written fit₀ after nd₀ np₀ nm₀ nd′ np′ nm′ z (ended-next root ls hs cs ws ds₀ ps₀ ms₀ ds ps ms count left done r q is-quiet t nd′ np′ nm′ h),
+            )
+
+        -- the round was copied into the table
+        pub goes : (q || eqb left 0) ≡ false → {ds′ ps′ ms′ : List ℕ} → (ds′ ≡ nd′) × (ps′ ≡ np′) × (ms′ ≡ nm′)
+            → SameLengths ds ps ms ds′ ps′ ms′ → SameLengths nd np nm nd′ np′ nm′
+            → Going root ls hs cs ws ds₀ ps₀ ms₀ nd₀ np₀ nm₀ ds′ ps′ ms′ nd′ np′ nm′ count (left - 1) (done + 1)
+        goes t {ds′} {ps′} {ms′} copied a b =
+            record {
+              table = record { dists = a .dists ∙ s .table .dists; parents = a .parents ∙ s .table .parents; marks = a .marks ∙ s .table .marks };
+              next = record { dists = b .dists ∙ s .next .dists; parents = b .parents ∙ s .next .parents; marks = b .marks ∙ s .next .marks };
+              running = λ _. goes-on root ls hs cs ws ds₀ ps₀ ms₀ ds ps ms count left done (s .running z) q is-quiet t ds′ ps′ ms′
+                  (record { dists = copied .0 ∙ h .dists; parents = copied .1 ∙ h .parents; marks = copied .2 ∙ h .marks });
+              still = λ f. absurd (true≢false (sym z ∙ f));
+            }

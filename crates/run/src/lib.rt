@@ -5,17 +5,12 @@ mod copy;
 use copy::copy_table;
 use measure::Rounds;
 use round::one_round;
-use tables::lengths::fitting;
 use tables::same::same;
 ghost use mathlib.Core.Path.{_≡_};
-ghost use mathlib.Core.Bool.{true, _||_};
+ghost use mathlib.Core.Bool.{_||_};
 ghost use lib.Dec.{eqb};
-ghost use lib.ListN.{length};
-ghost use Rattle.rule.specs.Round.{netOf};
-ghost use Rattle.slices.specs.Slices.{cellsOf, parkOf};
-ghost use Rattle.tables.specs.Fit.{fits, Together, Holds, Written};
-ghost use Rattle.round.specs.Table.{roundOf};
-ghost use Rattle.run.specs.Run.{quiet, runFrom, nextAfter, ranOf};
+ghost use Rattle.tables.specs.Fit.{fits, Written};
+ghost use Rattle.run.specs.Run.{runFrom, nextAfter, ranOf};
 
 // What a run answers.
 pub struct Ran {
@@ -25,48 +20,6 @@ pub struct Ran {
     pub rounds: Rounds,
     // Whether one more round would change nothing.
     pub quiet: bool,
-}
-
-// Writes the round of the stored table into the next slices; whether it leaves every value as it is.
-fn try_round(
-    root: u16,
-    lows: &[u16],
-    highs: &[u16],
-    costs: &[u16],
-    words: &[u64],
-    dists: &[u32],
-    parents: &[u16],
-    marks: &[u8],
-    next_dists: &mut [u32],
-    next_parents: &mut [u16],
-    next_marks: &mut [u8],
-) -> bool
-    requires { ⌜ Together (now lows) (now highs) (now costs)
-        (now dists) (now parents) (now marks)
-        (now «next_dists») (now «next_parents») (now «next_marks») ⌝ }
-    ensures { λ r. ⌜ r ≡ quiet
-        (netOf (parkOf (length (now (dists .entry))) root (now (lows .entry)) (now (highs .entry)) (now (costs .entry)) (now (words .entry))))
-        (length (now (dists .entry)))
-        (cellsOf (now (dists .entry)) (now (parents .entry)) (now (marks .entry))) ⌝ }
-    ensures { λ _. ⌜ Holds
-        (roundOf root (now (lows .entry)) (now (highs .entry)) (now (costs .entry)) (now (words .entry))
-        (now (dists .entry)) (now (parents .entry)) (now (marks .entry)))
-        (now («next_dists» .exit)) (now («next_parents» .exit)) (now («next_marks» .exit)) ⌝ }
-{
-    one_round(
-        root,
-        lows,
-        highs,
-        costs,
-        words,
-        dists,
-        parents,
-        marks,
-        next_dists,
-        next_parents,
-        next_marks,
-    );
-    same(next_dists, next_parents, next_marks, dists, parents, marks)
 }
 
 // Whether a run ends here: the next round would change nothing, or no round is left.
@@ -79,69 +32,9 @@ fn ends(quiet: bool, left: u32) -> bool
     left == 0
 }
 
-// The run over slices that belong together. A turn is one round, one comparison and one copy; when it ends, the next slices hold the round of
-// the table that stands.
-fn run_fitting(
-    count: Rounds,
-    root: u16,
-    lows: &[u16],
-    highs: &[u16],
-    costs: &[u16],
-    words: &[u64],
-    dists: &mut [u32],
-    parents: &mut [u16],
-    marks: &mut [u8],
-    next_dists: &mut [u32],
-    next_parents: &mut [u16],
-    next_marks: &mut [u8],
-) -> Ran
-    requires { ⌜ Together (now lows) (now highs) (now costs)
-        (now dists) (now parents) (now marks)
-        (now «next_dists») (now «next_parents») (now «next_marks») ⌝ }
-    ensures { λ r. ⌜ r ≡ ranOf true
-        (runFrom (count .0) 0 root (now (lows .entry)) (now (highs .entry)) (now (costs .entry)) (now (words .entry))
-        (now (dists .entry)) (now (parents .entry)) (now (marks .entry))) ⌝ }
-    ensures { λ _. ⌜ Holds
-        (runFrom (count .0) 0 root (now (lows .entry)) (now (highs .entry)) (now (costs .entry)) (now (words .entry))
-        (now (dists .entry)) (now (parents .entry)) (now (marks .entry)) .table)
-        (now (dists .exit)) (now (parents .exit)) (now (marks .exit)) ⌝ }
-    ensures { λ _. ⌜ Holds
-        (nextAfter (count .0) root (now (lows .entry)) (now (highs .entry)) (now (costs .entry)) (now (words .entry))
-        (now (dists .entry)) (now (parents .entry)) (now (marks .entry)))
-        (now («next_dists» .exit)) (now («next_parents» .exit)) (now («next_marks» .exit)) ⌝ }
-{
-    let mut left = count.0;
-    let mut done: u32 = 0;
-    loop {
-        let quiet = try_round(
-            root,
-            lows,
-            highs,
-            costs,
-            words,
-            dists,
-            parents,
-            marks,
-            next_dists,
-            next_parents,
-            next_marks,
-        );
-        if ends(quiet, left) {
-            return Ran {
-                fit: true,
-                rounds: Rounds(done),
-                quiet,
-            };
-        }
-        copy_table(next_dists, next_parents, next_marks, dists, parents, marks);
-        left -= 1;
-        done += 1;
-    }
-}
-
 // Rounds from the stored table until `count` rounds are done or the next would change nothing, in the three slices of the table. The next
-// slices then hold the table after one round more. Slices that do not belong together are left as they are. Distances and costs are in cost
-// units, `root` and parents are node numbers.
+// slices then hold the table after one round more. Slices that do not belong together are left as they are. A turn is one round, one
+// comparison and one copy. Distances and costs are in cost units, `root` and parents are node numbers.
 pub fn run(
     count: Rounds,
     root: u16,
@@ -179,19 +72,10 @@ pub fn run(
         (now («next_dists» .entry)) (now («next_parents» .entry)) (now («next_marks» .entry))
         (now («next_dists» .exit)) (now («next_parents» .exit)) (now («next_marks» .exit)) ⌝ }
 {
-    if fitting(
-        lows.len(),
-        highs.len(),
-        costs.len(),
-        dists.len(),
-        parents.len(),
-        marks.len(),
-        next_dists.len(),
-        next_parents.len(),
-        next_marks.len(),
-    ) {
-        return run_fitting(
-            count,
+    let mut left = count.0;
+    let mut done: u32 = 0;
+    loop {
+        if !one_round(
             root,
             lows,
             highs,
@@ -203,11 +87,23 @@ pub fn run(
             next_dists,
             next_parents,
             next_marks,
-        );
-    }
-    Ran {
-        fit: false,
-        rounds: Rounds(0),
-        quiet: false,
+        ) {
+            return Ran {
+                fit: false,
+                rounds: Rounds(0),
+                quiet: false,
+            };
+        }
+        let quiet = same(next_dists, next_parents, next_marks, dists, parents, marks);
+        if ends(quiet, left) {
+            return Ran {
+                fit: true,
+                rounds: Rounds(done),
+                quiet,
+            };
+        }
+        copy_table(next_dists, next_parents, next_marks, dists, parents, marks);
+        left -= 1;
+        done += 1;
     }
 }

@@ -1,3 +1,2 @@
-pub mod LentLaws
 pub mod RunFileLaws
 pub mod RunTheorems

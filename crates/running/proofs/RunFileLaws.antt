@@ -1,11 +1,11 @@
 -- A run over the slices that a file is taken apart into is the run of the park that the file holds.
 use Prim.Native.Nat.{ℕ, _+_, _*_, _≤_}
-use mathlib.Core.Path.{_≡_, refl, sym, ap, ap₂, subst, _∙_}
+use mathlib.Core.Path.{_≡_, sym, ap, ap₂, subst, _∙_}
 use mathlib.Core.Bool.{Bool, true}
 use mathlib.Core.List.{List, _++_}
 use lib.ListN.{length, take, drop, length-map}
 use lib.Seq.{sets}
-use Rattle.rule.specs.Round.{Cell, Park, netOf}
+use Rattle.rule.specs.Round.{Cell, netOf}
 use Rattle.wire.specs.Big.{Bytes, big}
 use Rattle.slices.specs.Slices.{cellsOf, parkOf}
 use Rattle.park.specs.declared.refusal.Refusal.{Refusal}
@@ -17,8 +17,8 @@ use Rattle.park.proofs.VerdictLaws.{then-fine}
 use Rattle.slices.proofs.TableLaws.{cells-of}
 use Rattle.writing.specs.Area.{roomFor, areaWith}
 use Rattle.placing.proofs.PlacingLaws.{state-file}
-use Rattle.apart.specs.Columns.{column, little}
-use Rattle.apart.proofs.ApartLaws.{park-taken, state-taken}
+use Rattle.columns.specs.Columns.{column, little}
+use Rattle.apart.proofs.ApartLaws.{state-taken}
 use Rattle.run.specs.Run.{Outcome, runOf, runFrom, ranOf}
 use Rattle.run.specs.declared.Ran.{Ran}
 use Rattle.run.proofs.StepLaws.{held}
@@ -28,22 +28,13 @@ use Rattle.running.specs.declared.RunAnswer as answer
 use Rattle.allowing.specs.Allowing.{readyFor, settled}
 use Rattle.running.specs.Running.{outcomeOf, runVerdict, runFile, answerBy, runAnswer}
 use Rattle.running.specs.Ends.{Ends}
-use Rattle.running.proofs.LentLaws.{part, again}
+use Rattle.apart.proofs.LentLaws.{part, again, links-again, park-again}
 
-module _ (s : List ℕ) (b : Bytes s) (fine : verdictOf s ≡ Fine) where
-  -- the run from the columns, each as long as the file says
-  run-columns : (N root l : ℕ) (ls hs cs ws ds ps ms : List ℕ) (nl nh nc nw nd np nm : ℕ) → root ≡ rootIn s → l ≡ linkCount s
-      → (ls ≡ column (big 2 s) 10 6 nl) × (hs ≡ column (big 2 s) 12 6 nh) × (cs ≡ column (big 2 s) 14 6 nc)
-      → ws ≡ column (little 8 s) (13 + 6 * l) 8 nw
-      → (ds ≡ column (big 4 s) (48 + 6 * l) 7 nd) × (ps ≡ column (big 2 s) (52 + 6 * l) 7 np) × (ms ≡ column (big 1 s) (54 + 6 * l) 7 nm)
-      → (nl ≡ linkCount s) × (nh ≡ linkCount s) × (nc ≡ linkCount s) → nw ≡ 4 → (nd ≡ nodesIn s) × (np ≡ nodesIn s) × (nm ≡ nodesIn s)
-      → length ds ≡ nodesIn s → runFrom N 0 root ls hs cs ws ds ps ms ≡ outcomeOf (fileIn s) N
-  unfolding outcomeOf fileIn
-  run-columns N root l ls hs cs ws ds ps ms nl nh nc nw nd np nm r k links group state a w t n =
-      let park : parkOf (nodesIn s) root ls hs cs ws ≡ parkIn (fileIn s) = park-taken s fine b l k _ root _ _ _ _ ls hs cs ws refl r a w links group in
-      let table : cellsOf ds ps ms ≡ fileIn s .state = state-taken s fine b l k _ _ _ ds ps ms t state in
-      ap (λ (m : ℕ). runOf (netOf (parkOf m root ls hs cs ws)) m N 0 (cellsOf ds ps ms)) n
-      ∙ ap₂ (λ (p : Park) (c : List Cell). runOf (netOf p) (nodesIn s) N 0 c) park table
+-- the run from slices that hold the park and the state of a file
+run-slices : (s : List ℕ) (N root : ℕ) (ls hs cs ws ds ps ms : List ℕ) → length ds ≡ nodesIn s → parkOf (length ds) root ls hs cs ws ≡ parkIn (fileIn s)
+    → cellsOf ds ps ms ≡ fileIn s .state → runFrom N 0 root ls hs cs ws ds ps ms ≡ outcomeOf (fileIn s) N
+unfolding outcomeOf fileIn
+run-slices s N root ls hs cs ws ds ps ms n park table = λ i. runOf (netOf (park i)) (n i) N 0 (table i)
 
 -- what the run over slices that belong together answers and leaves
 ran-together : (fit : Bool) (o o′ : Outcome) (r : Ran) (ds ps ms ds′ ps′ ms′ : List ℕ) → fit ≡ true → o ≡ o′ → r ≡ ranOf fit o
@@ -68,20 +59,16 @@ pub ran-apart : (s : List ℕ) → Bytes s → verdictOf s ≡ Fine → (N root 
     (r : Ran) (ds′ ps′ ms′ : List ℕ) → r ≡ ranOf fit o → Written fit (o .table) ds ps ms ds′ ps′ ms′
     → (r ≡ ranOf true (outcomeOf (fileIn s) N)) × Holds (outcomeOf (fileIn s) N .table) ds′ ps′ ms′
 ran-apart s b fine N root l zl ls zh hs zc cs ws d p m ds ps ms zd zp zm er el few kept links group size same state room r ds′ ps′ ms′ told left =
-    let low = again l ls zl (kept .0) (few .0) in
-    let high = again l hs zh (kept .1) (few .1) in
-    let cost = again l cs zc (kept .2) (few .2) in
-    let pl = part l zl (few .0) in
-    let ph = part l zh (few .1) in
-    let pc = part l zc (few .2) in
+    let long = same .0 ∙ size .0 in
+    let park = park-again s b fine l el zl ls zh hs zc cs few kept links _ root ws long er group in
     let together : Together (take l (ls ++ drop l zl)) (take l (hs ++ drop l zh)) (take l (cs ++ drop l zc)) ds ps ms (take (length d) zd) (take (length d) zp) (take (length d) zm) =
     record {
-      links = (ap length high ∙ kept .1 ∙ sym ph ∙ pl ∙ sym (kept .0) ∙ sym (ap length low), ap length cost ∙ kept .2 ∙ sym pc ∙ pl ∙ sym (kept .0) ∙ sym (ap length low));
-      table = (same .1 ∙ size .1 ∙ sym (same .0 ∙ size .0), same .2 ∙ size .2 ∙ sym (same .0 ∙ size .0));
+      links = links-again s b fine l el zl ls zh hs zc cs few kept links;
+      table = (same .1 ∙ size .1 ∙ sym long, same .2 ∙ size .2 ∙ sym long);
       second = (sym (part (length d) zd (room .0)) ∙ sym (same .0), sym (part (length d) zp (room .1)) ∙ sym (same .0), sym (part (length d) zm (room .2)) ∙ sym (same .0));
     } in
     ran-together _ _ _ _ _ _ _ _ _ _ (true-fit _ _ _ _ _ _ _ _ _ together)
-    (run-columns s b fine N root l _ _ _ ws ds ps ms _ _ _ _ _ _ _ er el (low ∙ links .0, high ∙ links .1, cost ∙ links .2) group state (sym pl ∙ el, sym ph ∙ el, sym pc ∙ el) refl size (same .0 ∙ size .0))
+    (run-slices s N root _ _ _ ws ds ps ms long park (state-taken s fine b l el _ _ _ ds ps ms size state))
     told left
 
 -- the refusal after the rounds, from what the run over slices answers

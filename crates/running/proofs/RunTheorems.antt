@@ -4,14 +4,14 @@ use Prim.Native.Nat.{ℕ, zero, suc, _+_, _/_, _≤_, _<_}
 use native.Mathlib.Nat.{le-trans, div-mul-le-self, le-div-iff-mul-le}
 use native.Mathlib.Decide.{decLt}
 use native.Mathlib.Omega.{arith}
-use mathlib.Core.Path.{_≡_, sym, ap, subst, _∙_}
-use mathlib.Core.Bool.{Bool, true, false}
+use mathlib.Core.Path.{_≡_, sym, ap, subst}
+use mathlib.Core.Bool.{true, false}
 use mathlib.Core.List.{List}
 use lib.ListN.{length}
 use Rattle.measure.specs.Measure.{ceiling}
 use Rattle.rule.specs.Round.{Cell, Park, at, round, rounds, netOf}
 use Rattle.rule.specs.Exact.{Node, Exact}
-use Rattle.rule.specs.Settles.{ParkOk, leastCost, reachable, farthest, after, Settles}
+use Rattle.rule.specs.Settles.{ParkOk, leastCost, reachable, farthest, after}
 use Rattle.rule.proofs.NetLaws.{sound}
 use Rattle.rule.proofs.DistanceLaws.{solved-le}
 use Rattle.rule.proofs.TableLaws.{length-round, table-same}

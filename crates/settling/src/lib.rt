@@ -2,7 +2,6 @@
 // table: a header, a line for each node (number, distance in cost units, parent, mark) and the rounds done. A refusal
 // prints only its number and its place in bytes. A failed read or write is told on standard error.
 mod input;
-mod text;
 
 use chandvreksh::Checked;
 use chandvreksh::Refusal;
@@ -28,7 +27,7 @@ pub fn show(text: &[u8]) {
 // Prints the refusal.
 pub fn show_refusal(refusal: Refusal) {
     let mut page = [0u8; 64];
-    let end = text::put_refusal(&mut page, refusal);
+    let end = telling::put_refusal(&mut page, refusal);
     show(&page[..end]);
 }
 
@@ -40,7 +39,7 @@ fn run_and_show(file: &[u8], nodes: u16, links: u16, count: Rounds) {
     match answer {
         RunAnswer::Refused(refusal) => show_refusal(refusal),
         RunAnswer::Done { rounds, quiet: _ } => {
-            let end = text::put_settled(&mut page, &settled, nodes, links, rounds);
+            let end = telling::put_settled(&mut page, &settled, nodes, links, rounds);
             show(&page[..end]);
         }
     }

@@ -4,10 +4,10 @@ use mathlib.Core.Path.{_≡_, refl, sym, ap, _∙_}
 use mathlib.Core.List.{List, [], _∷_, _++_}
 use native.Mathlib.Numerals.{add-one}
 use native.Mathlib.Omega.{arith}
-use lib.ListN.{length, getD, drop, drop-of-length-le, length-append}
+use lib.ListN.{length, getD, set, drop, drop-of-length-le, length-append}
 use lib.Seq.{sets, drop-cons}
 use Rattle.wire.specs.Big.{bytesOf}
-use Rattle.wire.proofs.BigLaws.{sets-append, length-bytesOf}
+use Rattle.wire.proofs.BigLaws.{sets-append, put-both, length-bytesOf}
 use Rattle.park.specs.ParkFile.{stateBytes}
 use Rattle.slices.specs.Slices.{cellsOf}
 use Rattle.storing.specs.Storing.{cellBytes}
@@ -15,15 +15,15 @@ use Rattle.storing.specs.Storing.{cellBytes}
 pub length-cell : (d p m : ℕ) → length (cellBytes d p m) ≡ 7
 length-cell d p m = simp (length-append, length-bytesOf)
 
--- three stores are one store of the record
-pub cell-put : (l : List ℕ) (at d p m : ℕ) → sets (sets (sets l at (bytesOf 4 d)) (at + 4) (bytesOf 2 p)) (at + 6) (m ∷ []) ≡ sets l at (cellBytes d p m)
-cell-put l at d p m =
+-- three stores, which leave x, y and z, are one store of the record
+pub cell-put : (l : List ℕ) (at d p m : ℕ) {x y z : List ℕ} → x ≡ sets l at (bytesOf 4 d) → y ≡ sets x (at + 4) (bytesOf 2 p) → z ≡ set y (at + 6) m
+    → z ≡ sets l at (cellBytes d p m)
+cell-put l at d p m {x} e f g =
     let a : List ℕ = bytesOf 4 d in
     let b : List ℕ = bytesOf 2 p in
-    let e : at + 4 + length b ≡ at + 6 = rw length-bytesOf (omega arith) in
-    let x : sets (sets (sets l at a) (at + 4) b) (at + 6) (m ∷ []) ≡ sets (sets l at a) (at + 4) (b ++ (m ∷ [])) =
-    ap (λ (k : ℕ). sets (sets (sets l at a) (at + 4) b) k (m ∷ [])) (sym e) ∙ sets-append (sets l at a) (at + 4) b (m ∷ []) in
-    x ∙ ap (λ (k : ℕ). sets (sets l at a) (at + k) (b ++ (m ∷ []))) (sym (length-bytesOf 4 d)) ∙ sets-append l at a (b ++ (m ∷ []))
+    let six : at + 6 ≡ at + 4 + length b = rw length-bytesOf (omega arith) in
+    put-both l at (at + 4) a (b ++ (m ∷ [])) (ap (λ (k : ℕ). at + k) (sym (length-bytesOf 4 d))) e
+    (put-both x (at + 4) (at + 6) b (m ∷ []) six f g)
 
 module _ (ds ps ms : List ℕ) where
   -- what is still to put from node i + 1 on

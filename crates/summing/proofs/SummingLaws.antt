@@ -18,7 +18,7 @@ use Rattle.park.specs.ParkFile.{parkIn}
 use Rattle.park.specs.Reading.{lengthAt, nodesIn, linkCount, verdictOf, fileIn, readPark}
 use Rattle.park.proofs.RoundTrip.{file-read, six}
 use Rattle.park.proofs.ParkLaws.{read-park-ok}
-use Rattle.apart.specs.Columns.{column, little}
+use Rattle.columns.specs.Columns.{column, little}
 use Rattle.apart.proofs.ApartLaws.{length-column, park-here, state-here}
 use Rattle.group.specs.Count as group
 use Rattle.group.proofs.WordLaws.{members-within}

@@ -3,9 +3,8 @@
 use park::answer::Verdict;
 use park::refusal::Refusal;
 ghost use mathlib.Core.Path.{_≡_};
-ghost use Prim.Native.Nat.{_≤_, _<_};
+ghost use Prim.Native.Nat.{_≤_};
 ghost use lib.ListN.{length};
-ghost use Rattle.wire.specs.Big.{big};
 ghost use Rattle.park.specs.declared.answer.Verdict.the-variants.{Fine};
 ghost use Rattle.park.specs.Reading.{nodesIn, verdictOf, fileIn};
 ghost use Rattle.group.specs.Count.{membersOf, markedOf, servedOf};
@@ -55,7 +54,7 @@ fn counts_over(file: &[u8], words: &mut [u64], marks: &mut [u8]) -> Counts
     ensures { λ r. ⌜ r ≡ countsOf (fileIn (now (file .entry))) ⌝ }
 {
     apart::take_group(file, wire::big16(file, 8) / 6, words);
-    apart::column8(file, 54 + wire::number_at(file, 8), 7, marks);
+    columns::column8(file, 54 + wire::number_at(file, 8), 7, marks);
     count_all(words, marks)
 }
 

@@ -1,6 +1,5 @@
 -- Whether slices belong together, test by test, and what it gives where they do.
 use Prim.Native.Nat.{ℕ}
-use native.Mathlib.Omega.{arith}
 use mathlib.Core.Path.{_≡_, refl}
 use mathlib.Core.Bool.{Bool, true, false, _&&_, false≢true}
 use mathlib.Core.List.{List}
@@ -50,15 +49,11 @@ module _ (ls hs cs ds ps ms ds′ ps′ ms′ : List ℕ) where
       rw (even-of (length ls) (length hs) (length cs) (t .links .0) (t .links .1), even-of (length ds) (length ps) (length ms) (t .table .0) (t .table .1), eq-eqb (length ds′) (length ds) (t .second .0))
       (even-of (length ds) (length ps′) (length ms′) (t .second .1) (t .second .2))
 
--- slices of the lengths of others belong together as they do
+-- slices of the lengths of others
 pub record SameLengths (ds ps ms ds′ ps′ ms′ : List ℕ) : Type 0 where
   pub dists : length ds′ ≡ length ds
   pub parents : length ps′ ≡ length ps
   pub marks : length ms′ ≡ length ms
-
-pub fit-again : {ls hs cs ds ps ms sd sp sm ds′ ps′ ms′ sd′ sp′ sm′ : List ℕ} → SameLengths ds ps ms ds′ ps′ ms′ → SameLengths sd sp sm sd′ sp′ sm′
-    → Together ls hs cs ds ps ms sd sp sm → Together ls hs cs ds′ ps′ ms′ sd′ sp′ sm′
-fit-again a b t = record { links = t .links; table = (omega arith, omega arith); second = (omega arith, omega arith, omega arith) }
 
 -- what slices hold after a call, by whether they belong together
 module _ (fit : Bool) (t : List Cell) (ds ps ms : List ℕ) where

@@ -7,18 +7,19 @@ use native.Mathlib.Numerals.{add-one}
 use native.Mathlib.Omega.{arith}
 use borrow.Author.Tests.{eq-eqb, ne-eqb}
 use Rattle.rule.specs.Round.{Link}
-use Rattle.way.specs.Way.{neighbour, reached, broken, looping, followed}
+use Rattle.way.specs.declared.Outcome.the-variants.{Reached, Broken, Looping}
+use Rattle.way.specs.Way.{neighbour, followed}
 
 module _ (root : ℕ) (ls : List Link) (Q : ℕ → ℕ) (left hops i : ℕ) where
-  pub at-root : i ≡ root → followed root ls Q left hops i ≡ reached hops
+  pub at-root : i ≡ root → followed root ls Q left hops i ≡ Reached (record { 0 = hops })
   unfolding followed
   at-root e = go left
     where
-      go : (n : ℕ) → followed root ls Q n hops i ≡ reached hops
+      go : (n : ℕ) → followed root ls Q n hops i ≡ Reached (record { 0 = hops })
       go zero = rw (eq-eqb i root e)
       go (suc n) = rw (eq-eqb i root e)
 
-  pub no-hop-left : (i ≡ root → ⊥) → left ≡ 0 → followed root ls Q left hops i ≡ looping
+  pub no-hop-left : (i ≡ root → ⊥) → left ≡ 0 → followed root ls Q left hops i ≡ Looping
   unfolding followed
   no-hop-left other none = rw (none, ne-eqb i root other)
 
@@ -33,10 +34,10 @@ module _ (root : ℕ) (ls : List Link) (Q : ℕ → ℕ) (left hops i : ℕ) whe
             let less : suc n - 1 ≡ n = omega arith in
             rw (ne-eqb i root other, ← next, ← e, less, add-one)
 
-    pub broken-here : false ≡ neighbour ls i q → followed root ls Q left hops i ≡ broken i
+    pub broken-here : false ≡ neighbour ls i q → followed root ls Q left hops i ≡ Broken i
     unfolding followed
     broken-here = go left some
       where
-        go : (n : ℕ) → (n ≡ 0 → ⊥) → false ≡ neighbour ls i q → followed root ls Q n hops i ≡ broken i
+        go : (n : ℕ) → (n ≡ 0 → ⊥) → false ≡ neighbour ls i q → followed root ls Q n hops i ≡ Broken i
         go zero h e = absurd (h refl)
         go (suc n) h e = rw (ne-eqb i root other, ← next, ← e)

@@ -1,16 +1,16 @@
 -- What node i hears over the links of two slices, link by link from the front: each link is heard from one sender at most.
-use Prim.Native.Nat.{ℕ, zero, suc, _+_, _-_, _≤_, _<_}
+use Prim.Native.Nat.{ℕ, suc, _+_, _≤_, _<_}
 use mathlib.Core.Path.{_≡_, refl, sym}
 use mathlib.Core.Bool.{Bool, true, false, cond, _||_}
 use mathlib.Core.List.{List, [], _∷_}
 use native.Mathlib.Numerals.{add-one}
-use native.Mathlib.Omega.{arith}
 use lib.ListN.{length, getD, drop, drop-of-length-le}
 use lib.Seq.{drop-cons}
 use lib.Dec.{eqb}
 use borrow.Author.Tests.{eq-eqb, ne-eqb}
 use Rattle.rule.specs.Round.{Link, arcsOf}
-use Rattle.way.specs.Way.{hears, neighbour, endsOf}
+use Rattle.way.specs.Way.{hears, neighbour}
+use Rattle.way.specs.Ends.{endsOf}
 
 -- the node that i hears over the link between low and high; 0 where i is no end of it
 abbrev pub senderOf : ℕ → ℕ → ℕ → ℕ

@@ -19,7 +19,8 @@ use Rattle.rule.proofs.MarkLaws.{child-farther}
 use Rattle.rule.proofs.HopsLaws.{nearer, nearer-falls, nearer-few}
 use Rattle.rule.proofs.RoundsLaws.{still-exact}
 use Rattle.rule.proofs.Demand3.{exact-still}
-use Rattle.way.specs.Way.{hears, neighbour, reached, followed, outcomeOf, wayOf, parkWay}
+use Rattle.way.specs.declared.Outcome.the-variants.{Reached}
+use Rattle.way.specs.Way.{hears, neighbour, followed, wayOf, parkWay}
 
 -- the sender of an arc among those that are heard is heard
 heard : (xs : List Arc) (a : Arc) → List·Memᴰ a xs → hears xs (a .from) ≡ true
@@ -68,7 +69,7 @@ module _ (p : Park) (t : List Cell) (ok : ParkOk p) (ex : Exact p t) where
   record Reaches (left hops i : ℕ) : Type 0 where
     more : ℕ
     few : more ≤ room i
-    there : followed (p .root) (p .links) Q left hops i ≡ reached (more + hops)
+    there : followed (p .root) (p .links) Q left hops i ≡ Reached (record { 0 = more + hops })
 
   -- by the hops still allowed, which are enough for the nodes that are nearer
   reaches : (left hops i : ℕ) → S i < ceiling → room i ≤ left → Reaches left hops i
@@ -94,7 +95,7 @@ module _ (p : Park) (t : List Cell) (ok : ParkOk p) (ex : Exact p t) where
           }
 
   -- "Reached, with the hops": in an exact table, from each node with a path, in fewer hops than there are nodes
-  pub exact-reaches : (i : ℕ) → Node p i → at t i .dist < ceiling → (h : ℕ) × (h < p .nodes) × (parkWay p t i ≡ record { node = i; outcome = outcomeOf (reached h) })
+  pub exact-reaches : (i : ℕ) → Node p i → at t i .dist < ceiling → (h : ℕ) × (h < p .nodes) × (parkWay p t i ≡ record { node = i; outcome = Reached (record { 0 = h }) })
   unfolding parkWay wayOf S Q room
   exact-reaches i node far =
       let few : room i < p .nodes = nearer-few (sound ok) solved exact i (node .least, node .most) in

@@ -1,9 +1,8 @@
 -- The way of a node, of document 01: where following stored parents leads.
 -- Nodes are numbered from 1, and 0 is no node; hop counts are in hops.
-use Prim.Native.Nat.{ℕ, zero, suc, min}
+use Prim.Native.Nat.{ℕ, zero, suc}
 use mathlib.Core.Bool.{Bool, false, cond, _||_}
 use mathlib.Core.List.{List, [], _∷_}
-use lib.ListN.{length}
 use lib.Dec.{eqb}
 use Rattle.rule.specs.Round.{Arc, Cell, Link, Park, arcsOf, at}
 use Rattle.way.specs.declared.Way.{Way}
@@ -19,40 +18,18 @@ hears (a ∷ xs) q = eqb (a .from) q || hears xs q
 unfoldable pub neighbour : List Link → ℕ → ℕ → Bool
 neighbour ls i q = cond (eqb q 0) false (hears (arcsOf ls i) q)
 
--- "one of three outcomes": reached with the hops, broken with the node, or looping
-pub data Ending : Type 0 where
-  reached : ℕ → Ending
-  broken : ℕ → Ending
-  looping : Ending
-
 -- "Following stored parents takes one hop at a time, from the node. Reached, with the hops, on meeting the root, whose own parent is not read.
 -- Broken, with the node whose parent is not one of its neighbours. Looping, when n hops have met neither."
 -- Q has the parents; then the hops still allowed, the hops done and the node met.
-unfoldable pub followed : ℕ → List Link → (ℕ → ℕ) → ℕ → ℕ → ℕ → Ending
-followed root ls Q zero hops i = cond (eqb i root) (reached hops) looping
+unfoldable pub followed : ℕ → List Link → (ℕ → ℕ) → ℕ → ℕ → ℕ → Outcome
+followed root ls Q zero hops i = cond (eqb i root) (Reached (record { 0 = hops })) Looping
 followed root ls Q (suc left) hops i =
-    cond (eqb i root) (reached hops) (cond (neighbour ls i (Q i)) (followed root ls Q left (suc hops) (Q i)) (broken i))
-
--- the case of the answer that tells each of the three, with the hops or the node in it
-abbrev pub outcomeOf : Ending → Outcome
-outcomeOf (reached hops) = Reached (record { 0 = hops })
-outcomeOf (broken node) = Broken node
-outcomeOf looping = Looping
+    cond (eqb i root) (Reached (record { 0 = hops })) (cond (neighbour ls i (Q i)) (followed root ls Q left (suc hops) (Q i)) (Broken i))
 
 -- "Way of a node: it gives the node asked about together with one of three outcomes": from the root, the links, the parents, n and the node
 unfoldable pub wayOf : ℕ → List Link → (ℕ → ℕ) → ℕ → ℕ → Way
-wayOf root ls Q n i = record { node = i; outcome = outcomeOf (followed root ls Q n 0 i) }
+wayOf root ls Q n i = record { node = i; outcome = followed root ls Q n 0 i }
 
 -- the way of node i in a park whose stored table is t
 unfoldable pub parkWay : Park → List Cell → ℕ → Way
 parkWay p t i = wayOf (p .root) (p .links) (λ j. at t j .parent) (p .nodes) i
-
--- the links between the ends that stand at the same places of two slices; their costs, which no way depends on, are left at 0
-unfoldable pub endsOf : List ℕ → List ℕ → List Link
-endsOf [] hs = []
-endsOf (l ∷ ls) [] = []
-endsOf (l ∷ ls) (h ∷ hs) = record { low = l; high = h; cost = 0 } ∷ endsOf ls hs
-
--- the nodes that a slice has parents of, counted in nodes; their numbers have 16 bits, so no more than 65,535
-abbrev pub nodesIn : List ℕ → ℕ
-nodesIn ps = min 65_535 (length ps)

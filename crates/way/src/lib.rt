@@ -7,7 +7,8 @@ ghost use mathlib.Core.Bool.{cond};
 ghost use lib.Dec.{eqb};
 ghost use Prim.Native.Nat.{_+_, _≤_};
 ghost use Rattle.slices.specs.Reading.{nodeAt};
-ghost use Rattle.way.specs.Way.{neighbour, followed, outcomeOf, wayOf, endsOf, nodesIn};
+ghost use Rattle.way.specs.Way.{neighbour, followed, wayOf};
+ghost use Rattle.way.specs.Ends.{endsOf, nodesIn};
 
 // Where following parents led.
 pub enum Outcome {
@@ -86,7 +87,7 @@ fn follow(
     node: u16,
 ) -> Outcome
     requires { ⌜ left .0 + done .0 ≤ 65535 ⌝ }
-    ensures { λ r. ⌜ r ≡ outcomeOf (followed root (endsOf (now (lows .entry)) (now (highs .entry))) (nodeAt 0 (now (parents .entry))) (left .0) (done .0) node) ⌝ }
+    ensures { λ r. ⌜ r ≡ followed root (endsOf (now (lows .entry)) (now (highs .entry))) (nodeAt 0 (now (parents .entry))) (left .0) (done .0) node ⌝ }
 {
     if node == root {
         return Outcome::Reached(done);

@@ -1,6 +1,6 @@
 -- The laws of big-endian numbers, over the width: written then read is the same, read then written is the same bytes.
 use Prim.Native.Nat.{ℕ, zero, suc, _+_, _*_, _/_, _%_, _^_, _≤_, _<_}
-use mathlib.Core.Path.{_≡_, refl, sym, ap, _∙_}
+use mathlib.Core.Path.{_≡_, refl, sym, ap, ap₂, _∙_}
 use mathlib.Core.List.{List, [], _∷_, _++_, append-assoc, append-nil}
 use native.Mathlib.Nat.{add-zero, zero-add, pow-suc}
 use native.Mathlib.Numerals.{add-one}
@@ -31,6 +31,13 @@ big-four s i =
     let e : i + 2 + 0 ≡ i + 2 = omega arith in
     let f : i + 2 + 1 ≡ i + 3 = omega arith in
     rw (e, f) (omega arith)
+
+-- two bytes that stand one behind the other, and two halves
+pub read-two : (s : List ℕ) (i : ℕ) {high low : ℕ} → high ≡ getD s i 0 → low ≡ getD s (i + 1) 0 → high * 256 + low ≡ big 2 s i
+read-two s i h l = ap₂ (λ (x y : ℕ). x * 256 + y) h l ∙ sym (big-two s i)
+
+pub read-four : (s : List ℕ) (i : ℕ) {high low : ℕ} → high ≡ big 2 s i → low ≡ big 2 s (i + 2) → high * 65536 + low ≡ big 4 s i
+read-four s i h l = ap₂ (λ (x y : ℕ). x * 65536 + y) h l ∙ sym (big-four s i)
 
 -- each byte is below 256, so a number of k bytes is below 256 ^ k
 pub big-lt : (k : ℕ) (s : List ℕ) (i : ℕ) → Bytes s → big k s i < 256 ^ k
@@ -132,6 +139,24 @@ bytes-four x =
     let c : x / 256 % 256 ≡ x % 65536 / 256 % 256 = omega arith in
     let d : x % 256 ≡ x % 65536 % 256 = omega arith in
     rw (a, b, c, d)
+
+-- a store into what stands for a list is one into the list
+pub put-then : (i : ℕ) (xs : List ℕ) {l m n : List ℕ} → m ≡ l → n ≡ sets m i xs → n ≡ sets l i xs
+put-then i xs e f = f ∙ ap (λ (x : List ℕ). sets x i xs) e
+
+-- two stores, the second right behind the first, are one
+pub put-both : (l : List ℕ) (i j : ℕ) (a b : List ℕ) {m n : List ℕ} → j ≡ i + length a → m ≡ sets l i a → n ≡ sets m j b → n ≡ sets l i (a ++ b)
+put-both l i j a b h e f = put-then j b e f ∙ ap (λ (k : ℕ). sets (sets l i a) k b) h ∙ sets-append l i a b
+
+pub put-two : (l : List ℕ) (i x : ℕ) {m n : List ℕ} → m ≡ set l i (x / 256 % 256) → n ≡ set m (i + 1) (x % 256) → n ≡ sets l i (bytesOf 2 x)
+put-two l i x e f =
+    rw (bytes-two x) (put-both l i (i + 1) (x / 256 % 256 ∷ []) (x % 256 ∷ []) refl e f)
+
+pub put-four : (l : List ℕ) (i x : ℕ) {m n : List ℕ} → m ≡ sets l i (bytesOf 2 (x / 65536)) → n ≡ sets m (i + 2) (bytesOf 2 (x % 65536))
+    → n ≡ sets l i (bytesOf 4 x)
+put-four l i x e f =
+    let h : i + 2 ≡ i + length (bytesOf 2 (x / 65536)) = ap (λ (k : ℕ). i + k) (sym (length-bytesOf 2 (x / 65536))) in
+    rw (bytes-four x) (put-both l i (i + 2) (bytesOf 2 (x / 65536)) (bytesOf 2 (x % 65536)) h e f)
 
 -- one byte of a run, and the rest
 pub bytes-turn : (whole l xs : List ℕ) (at i : ℕ) → i < length xs → sets l at (drop i xs) ≡ whole

@@ -6,20 +6,6 @@ ghost use lib.ListN.{getD, set};
 ghost use lib.Seq.{sets};
 ghost use Rattle.wire.specs.Big.{big, bytesOf};
 
-// A byte as a 16-bit number.
-fn wide16(x: u8) -> u16
-    ensures { λ r. ⌜ (r ≡ x) × (r < 256) ⌝ }
-{
-    x as u16
-}
-
-// A 16-bit number as a 32-bit one.
-fn wide32(x: u16) -> u32
-    ensures { λ r. ⌜ (r ≡ x) × (r < 65536) ⌝ }
-{
-    x as u32
-}
-
 // A 16-bit number as a count, in whatever it counts.
 pub fn wide(x: u16) -> usize
     ensures { λ r. ⌜ (r ≡ x) × (r < 65536) ⌝ }
@@ -44,8 +30,8 @@ pub fn big16(s: &[u8], place: usize) -> u16
     if s.len() <= place {
         return 0;
     }
-    let high = wide16(byte_at(s, place));
-    let low = wide16(byte_at(s, place + 1));
+    let high = s[place] as u16;
+    let low = byte_at(s, place + 1) as u16;
     high * 256 + low
 }
 
@@ -56,8 +42,8 @@ pub fn big32(s: &[u8], place: usize) -> u32
     if s.len() <= place {
         return 0;
     }
-    let high = wide32(big16(s, place));
-    let low = wide32(big16(s, place + 2));
+    let high = big16(s, place) as u32;
+    let low = big16(s, place + 2) as u32;
     high * 65536 + low
 }
 
@@ -84,7 +70,7 @@ pub fn put16(s: &mut [u8], place: usize, x: u16)
     if s.len() <= place {
         return;
     }
-    put_byte(s, place, (x / 256 % 256) as u8);
+    s[place] = (x / 256 % 256) as u8;
     put_byte(s, place + 1, (x % 256) as u8);
 }
 
@@ -109,7 +95,7 @@ pub fn put_bytes(s: &mut [u8], place: usize, bytes: &[u8])
         if s.len() <= at {
             return;
         }
-        put_byte(s, at, bytes[i]);
+        s[at] = bytes[i];
         at = at + 1;
         i = i + 1;
     }

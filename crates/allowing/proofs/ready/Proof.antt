@@ -1,5 +1,5 @@
 -- The first refusal of the three steps, in their order.
-use mathlib.Core.Path.{_≡_, sym, _∙_}
+use mathlib.Core.Path.{sym, _∙_}
 use borrow.Author.Needs.{needs}
 use borrow.Author.Tests.{le-leb, lt-leb}
 use Rattle.park.specs.Reading.{unless, _then_}

@@ -1,5 +1,6 @@
--- `cface::chandvreksh_check` meets its contract: what the call answers is put.
-use mathlib.Core.Path.{sym}
+-- `cface::chandvreksh_check` meets its contract: what the call answers is told in numbers.
+use mathlib.Core.Path.{ap, _∙_}
+use Rattle.chandvreksh.specs.Values.{checkValues}
 use borrow.Author.Needs.{needs}
 use Rattle.cface.proofs.chandvreksh_check.Statement.{statement}
 use Rattle.cface.proofs.chandvreksh_check.Tie as tie
@@ -7,11 +8,11 @@ use Rattle.cface.proofs.chandvreksh_check.Tie as tie
 check-requires : tie.Need-check-requires
 check-requires c κs = search needs
 
-put-check-requires : tie.Need-put-check-requires
-put-check-requires c κs = search needs
+check-values-requires : tie.Need-check-values-requires
+check-values-requires c κs = search needs
 
 returns : tie.Need-returns
-returns c = simp (sym (c .before .before .check .ensures)) (c .put-check .ensures)
+returns c = c .check-values .ensures ∙ ap checkValues (c .before .check .ensures)
 
 pub chandvreksh-check-spec : {M : Type 1} → statement M
-chandvreksh-check-spec = tie.close (tie.spec check-requires put-check-requires returns)
+chandvreksh-check-spec = tie.close (tie.spec check-requires check-values-requires returns)

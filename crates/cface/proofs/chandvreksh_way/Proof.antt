@@ -1,5 +1,6 @@
--- `cface::chandvreksh_way` meets its contract: what the call answers is put.
-use mathlib.Core.Path.{sym}
+-- `cface::chandvreksh_way` meets its contract: what the call answers is told in numbers.
+use mathlib.Core.Path.{ap, _∙_}
+use Rattle.chandvreksh.specs.Values.{wayValues}
 use borrow.Author.Needs.{needs}
 use Rattle.cface.proofs.chandvreksh_way.Statement.{statement}
 use Rattle.cface.proofs.chandvreksh_way.Tie as tie
@@ -7,11 +8,11 @@ use Rattle.cface.proofs.chandvreksh_way.Tie as tie
 way-of-node-requires : tie.Need-way-of-node-requires
 way-of-node-requires c κs = search needs
 
-put-way-requires : tie.Need-put-way-requires
-put-way-requires c κs = search needs
+way-values-requires : tie.Need-way-values-requires
+way-values-requires c κs = search needs
 
 returns : tie.Need-returns
-returns c = simp (sym (c .before .before .way-of-node .ensures)) (c .put-way .ensures)
+returns c = c .way-values .ensures ∙ ap wayValues (c .before .way-of-node .ensures)
 
 pub chandvreksh-way-spec : {M : Type 1} → statement M
-chandvreksh-way-spec = tie.close (tie.spec way-of-node-requires put-way-requires returns)
+chandvreksh-way-spec = tie.close (tie.spec way-of-node-requires way-values-requires returns)

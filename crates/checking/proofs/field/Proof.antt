@@ -21,13 +21,13 @@ tests s at step low high size =
     then unless (leb (at + 3 + size) (length s)) (Short at)
 
 -- a complete head with the tag that is due leaves those tests
-sized : (c : tie.After-wide)
-    → let a = c .before .before .before .before .before .before .args in
-    fieldAt (a .file .now) (a .at) (a .tag) (a .step) (a .low) (a .high) ≡ tests (a .file .now) (a .at) (a .step) (a .low) (a .high) (c .wide .result)
+sized : (c : tie.After-number-at)
+    → let a = c .before .before .before .before .before .args in
+    fieldAt (a .file .now) (a .at) (a .tag) (a .step) (a .low) (a .high) ≡ tests (a .file .now) (a .at) (a .step) (a .low) (a .high) (c .number-at .result)
 unfolding fieldAt unless _then_
 sized c =
-    let d = c .before .before in
-    simp (le-leb _ _ (d .before .before .if1 .left), eq-eqb _ _ (sym (d .before .byte-at .ensures) ∙ d .if2 .left), sym (c .wide .ensures .0 ∙ c .before .big16 .ensures))
+    let d = c .before in
+    simp (le-leb _ _ (d .before .before .if1 .left), eq-eqb _ _ (sym (d .before .byte-at .ensures) ∙ d .if2 .left), sym (c .number-at .ensures .0))
 
 add-if1 : tie.Need-add-if1
 add-if1 c = search needs
@@ -45,14 +45,11 @@ returns-2 c =
     let d = c .before in
     simp (le-leb _ _ (d .before .if1 .left), ne-eqb _ _ (λ e. c .if2 .taken (d .byte-at .ensures ∙ e)))
 
-add-big16 : tie.Need-add-big16
-add-big16 c = search needs
+add-number-at : tie.Need-add-number-at
+add-number-at c = search needs
 
-big16-requires : tie.Need-big16-requires
-big16-requires c κs = search needs
-
-wide-requires : tie.Need-wide-requires
-wide-requires c κs = search needs
+number-at-requires : tie.Need-number-at-requires
+number-at-requires c κs = search needs
 
 rem-if3 : tie.Need-rem-if3
 rem-if3 c = search needs
@@ -97,9 +94,8 @@ field-spec =
     returns
     byte-at-requires
     returns-2
-    add-big16
-    big16-requires
-    wide-requires
+    add-number-at
+    number-at-requires
     rem-if3
     returns-3
     returns-4

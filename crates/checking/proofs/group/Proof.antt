@@ -8,8 +8,8 @@ use Rattle.checking.proofs.group.Tie as tie
 big16-requires : tie.Need-big16-requires
 big16-requires c κs = search needs
 
-wide-requires : tie.Need-wide-requires
-wide-requires c κs = search needs
+cast-at : tie.Need-cast-at
+cast-at c = search needs
 
 add-at : tie.Need-add-at
 add-at c = search needs
@@ -23,20 +23,14 @@ enum-known-third c = search needs
 returns : tie.Need-returns
 unfolding groupIn _then_
 returns c =
-    simp (sym (c .before .before .before .before .wide .ensures .0 ∙ c .before .before .before .before .before .big16 .ensures))
-    (simp (sym (c .before .before .before .field .ensures) ∙ c .before .third .given .1))
+    let d = c .before .before .before in
+    simp (sym (d .before .big16 .ensures)) (simp (sym (d .field .ensures) ∙ c .before .third .given .1))
 
 enum-told : tie.Need-enum-told
 enum-told c = search needs
 
-add-bits : tie.Need-add-bits
-add-bits c = search needs
-
 big16-requires-2 : tie.Need-big16-requires-2
 big16-requires-2 c κs = search needs
-
-wide-requires-2 : tie.Need-wide-requires-2
-wide-requires-2 c κs = search needs
 
 bits-requires : tie.Need-bits-requires
 bits-requires c κs = search needs
@@ -44,31 +38,29 @@ bits-requires c κs = search needs
 returns-2 : tie.Need-returns-2
 unfolding groupIn unless _then_
 returns-2 c =
-    let d = c .before .before .before .before in
-    simp (sym (d .before .before .before .wide .ensures .0 ∙ d .before .before .before .before .big16 .ensures), sym (c .before .before .wide2 .ensures .0 ∙ c .before .before .before .big162 .ensures))
-    (simp (sym (d .before .before .field .ensures) ∙ d .enum-told .given .1, sym (c .before .bits .ensures) ∙ c .if1 .taken))
+    let d = c .before .before .before in
+    let e = d .before .before in
+    simp (sym (e .before .big16 .ensures), sym (c .before .before .big162 .ensures)) (simp (sym (e .field .ensures) ∙ d .enum-told .given .1, sym (c .before .bits .ensures) ∙ c .if1 .taken))
 
 returns-3 : tie.Need-returns-3
 unfolding groupIn unless _then_
 returns-3 c =
-    let d = c .before .before .before .before in
-    simp (sym (d .before .before .before .wide .ensures .0 ∙ d .before .before .before .before .big16 .ensures), sym (c .before .before .wide2 .ensures .0 ∙ c .before .before .before .big162 .ensures))
-    (simp (sym (d .before .before .field .ensures) ∙ d .enum-told .given .1, sym (c .before .bits .ensures) ∙ c .if1 .left))
+    let d = c .before .before .before in
+    let e = d .before .before in
+    simp (sym (e .before .big16 .ensures), sym (c .before .before .big162 .ensures)) (simp (sym (e .field .ensures) ∙ d .enum-told .given .1, sym (c .before .bits .ensures) ∙ c .if1 .left))
 
 pub group-spec : {M : Type 1} → statement M
 group-spec =
     tie.close
     (tie.spec
     big16-requires
-    wide-requires
+    cast-at
     add-at
     field-requires
     enum-known-third
     returns
     enum-told
-    add-bits
     big16-requires-2
-    wide-requires-2
     bits-requires
     returns-2
     returns-3)

@@ -21,9 +21,6 @@ enum-told c = search needs
 big16-requires : tie.Need-big16-requires
 big16-requires c κs = search needs
 
-wide-requires : tie.Need-wide-requires
-wide-requires c κs = search needs
-
 big16-requires-2 : tie.Need-big16-requires-2
 big16-requires-2 c κs = search needs
 
@@ -33,9 +30,8 @@ records-requires c κs = search needs
 returns-2 : tie.Need-returns-2
 unfolding linksIn _then_
 returns-2 c =
-    let d = c .before .before .before .before in
-    simp (sym (d .before .before .field .ensures) ∙ d .enum-told .given .1, sym (c .before .before .wide .ensures .0 ∙ c .before .before .before .big16 .ensures), sym (c .before .big162 .ensures))
-    (c .records .ensures)
+    let d = c .before .before .before in
+    simp (sym (d .before .before .field .ensures) ∙ d .enum-told .given .1, sym (c .before .big162 .ensures), sym (c .before .before .big16 .ensures)) (c .records .ensures)
 
 pub links-spec : {M : Type 1} → statement M
 links-spec =
@@ -46,7 +42,6 @@ links-spec =
     returns
     enum-told
     big16-requires
-    wide-requires
     big16-requires-2
     records-requires
     returns-2)

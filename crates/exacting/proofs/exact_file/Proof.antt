@@ -1,5 +1,5 @@
 -- The verdict decides whether the file is refused, and then the room whether the area takes it.
-use mathlib.Core.Path.{_≡_, sym, _∙_}
+use mathlib.Core.Path.{sym, _∙_}
 use Rattle.wire.specs.Big.{Bytes}
 use Rattle.exacting.proofs.ExactingLaws.{exact-refused, exact-put}
 use borrow.Author.Needs.{needs}

@@ -1,88 +1,104 @@
--- Each array has room for as many links, or nodes, as a checked file can have.
-use native.Mathlib.Omega.{arith}
-use lib.ListN.{length-take}
-use mathlib.Core.Path.{_∙_}
+-- The arrays are as long as the largest park needs, so a part of each is as long as the file says; the exact table is left there, and goes
+-- into the file.
+use Prim.Native.Nat.{ℕ, _≤_}
+use mathlib.Core.Path.{sym, subst, _∙_}
 use Rattle.apart.proofs.ApartLaws.{nodes-said, links-said}
-use borrow.Author.Needs.{needs}
+use Rattle.apart.proofs.LentLaws.{part, room-again, part-again}
+use Rattle.exacting.proofs.ExactingLaws.{exact-placed}
 use Rattle.exacting.proofs.put_exact.Statement.{statement}
 use Rattle.exacting.proofs.put_exact.Tie as tie
 
 nodes-requires : tie.Need-nodes-requires
-nodes-requires c κs = search needs
+nodes-requires c κs = tt
 
 links-requires : tie.Need-links-requires
-links-requires c κs = search needs
-
-cast-l : tie.Need-cast-l
-cast-l c = search needs
+links-requires c κs = tt
 
 big16-requires : tie.Need-big16-requires
-big16-requires c κs = search needs
-
-array-borrow-prefix-lows : tie.Need-array-borrow-prefix-lows
-array-borrow-prefix-lows c = search needs
-
-slice-aggregate-put-found : tie.Need-slice-aggregate-put-found
-slice-aggregate-put-found c = simp length-take (omega arith)
-
-array-borrow-prefix-highs : tie.Need-array-borrow-prefix-highs
-array-borrow-prefix-highs c = search needs
-
-slice-aggregate-put-found-2 : tie.Need-slice-aggregate-put-found-2
-slice-aggregate-put-found-2 c = simp length-take (omega arith)
-
-array-borrow-prefix-costs : tie.Need-array-borrow-prefix-costs
-array-borrow-prefix-costs c = search needs
-
-slice-aggregate-put-found-3 : tie.Need-slice-aggregate-put-found-3
-slice-aggregate-put-found-3 c = simp length-take (omega arith)
-
-slice-aggregate-put-found-4 : tie.Need-slice-aggregate-put-found-4
-slice-aggregate-put-found-4 c = search needs
+big16-requires c κs = tt
 
 array-borrow-prefix-dists : tie.Need-array-borrow-prefix-dists
-array-borrow-prefix-dists c = search needs
+array-borrow-prefix-dists c = c .before .before .nodes .ensures .1
 
-slice-aggregate-put-found-5 : tie.Need-slice-aggregate-put-found-5
-slice-aggregate-put-found-5 c = simp length-take (omega arith)
+slice-aggregate-find-apart : tie.Need-slice-aggregate-find-apart
+slice-aggregate-find-apart c = part _ _ (c .before .before .before .nodes .ensures .1)
 
 array-borrow-prefix-parents : tie.Need-array-borrow-prefix-parents
-array-borrow-prefix-parents c = search needs
+array-borrow-prefix-parents c = c .before .before .before .nodes .ensures .1
 
-slice-aggregate-put-found-6 : tie.Need-slice-aggregate-put-found-6
-slice-aggregate-put-found-6 c = simp length-take (omega arith)
+slice-aggregate-find-apart-2 : tie.Need-slice-aggregate-find-apart-2
+slice-aggregate-find-apart-2 c = part _ _ (c .before .before .before .before .nodes .ensures .1)
 
 array-borrow-prefix-marks : tie.Need-array-borrow-prefix-marks
-array-borrow-prefix-marks c = search needs
+array-borrow-prefix-marks c = c .before .before .before .before .nodes .ensures .1
 
-slice-aggregate-put-found-7 : tie.Need-slice-aggregate-put-found-7
-slice-aggregate-put-found-7 c = simp length-take (omega arith)
+slice-aggregate-find-apart-3 : tie.Need-slice-aggregate-find-apart-3
+slice-aggregate-find-apart-3 c = part _ _ (c .before .before .before .before .before .nodes .ensures .1)
 
-put-found-requires : tie.Need-put-found-requires
-put-found-requires c κs =
-    let d = c .before .before .before .before .before .before .before .before in
-    let l = d .before .links in
-    let n = d .before .before .nodes in
-    let start = d .before .before .before .before .before in
-    let many = links-said (start .args .file .now) (start .pre) in
-    let few = nodes-said (start .args .file .now) (start .pre) in (
-      (start .pre, l .ensures .0 ∙ many, d .big16 .ensures),
-      record {
-        lows = simp length-take (omega (arith, l .ensures, many));
-        highs = simp length-take (omega (arith, l .ensures, many));
-        costs = simp length-take (omega (arith, l .ensures, many));
-        words = search needs;
-        dists = simp length-take (omega (arith, n .ensures, few));
-        parents = simp length-take (omega (arith, n .ensures, few));
-        marks = simp length-take (omega (arith, n .ensures, few));
-      },
+find-apart-requires : tie.Need-find-apart-requires
+find-apart-requires c κs =
+    let links = c .before .before .before .before .links .ensures in
+    let nodes = c .before .before .before .before .before .nodes .ensures in
+    let start = c .before .before .before .before .before .before .before .before in
+    let fine = start .pre in
+    let long = nodes .0 ∙ nodes-said (start .args .file .now) fine in (
+      (fine, c .before .before .before .big16 .ensures, links .0 ∙ links-said (start .args .file .now) fine, links .1),
+      (sym (part _ _ (nodes .1)) ∙ long, sym (part _ _ (nodes .1)) ∙ long, sym (part _ _ (nodes .1)) ∙ long, subst (λ (k : ℕ). k ≤ 256) (part _ _ (nodes .1)) (nodes .1)),
     )
 
+array-share-prefix-dists : tie.Need-array-share-prefix-dists
+array-share-prefix-dists c =
+    let f = c .before .before .before in
+    room-again _ (f .find-apart .last .1 .1 .1 .0) _ (c .before .before .dists2 .given) (f .before .before .before .before .before .before .nodes .ensures .1)
+
+slice-aggregate-put-with-state : tie.Need-slice-aggregate-put-with-state
+slice-aggregate-put-with-state c =
+    let f = c .before .before .before .before in
+    part-again _ (f .find-apart .last .1 .1 .1 .0) _ (c .before .before .before .dists2 .given) (f .before .before .before .before .before .before .nodes .ensures .1)
+
+array-share-prefix-parents : tie.Need-array-share-prefix-parents
+array-share-prefix-parents c =
+    let f = c .before .before .before .before in
+    room-again _ (f .find-apart .last .1 .1 .1 .1 .0) _ (c .before .before .parents2 .given) (f .before .before .before .before .before .before .nodes .ensures .1)
+
+slice-aggregate-put-with-state-2 : tie.Need-slice-aggregate-put-with-state-2
+slice-aggregate-put-with-state-2 c =
+    let f = c .before .before .before .before .before in
+    part-again _ (f .find-apart .last .1 .1 .1 .1 .0) _ (c .before .before .before .parents2 .given) (f .before .before .before .before .before .before .nodes .ensures .1)
+
+array-share-prefix-marks : tie.Need-array-share-prefix-marks
+array-share-prefix-marks c =
+    let f = c .before .before .before .before .before in
+    room-again _ (f .find-apart .last .1 .1 .1 .1 .1 .0) _ (c .before .before .marks2 .given) (f .before .before .before .before .before .before .nodes .ensures .1)
+
+slice-aggregate-put-with-state-3 : tie.Need-slice-aggregate-put-with-state-3
+slice-aggregate-put-with-state-3 c =
+    let f = c .before .before .before .before .before .before in
+    part-again _ (f .find-apart .last .1 .1 .1 .1 .1 .0) _ (c .before .before .before .marks2 .given) (f .before .before .before .before .before .before .nodes .ensures .1)
+
+put-with-state-requires : tie.Need-put-with-state-requires
+put-with-state-requires c κs = tt
+
 same-length : tie.Need-same-length
-same-length c = search needs
+same-length c = c .before .before .put-with-state .kept .1 .1 .1 .1 .1 .0
 
 returns : tie.Need-returns
-returns c = search needs
+returns c =
+    let put = c .before .before .put-with-state in
+    let back = c .before .before .before .before .before .before .before in
+    let f = back .before .before .before in
+    let found = f .find-apart in
+    let links = f .before .before .before .before .before .links in
+    let nodes = f .before .before .before .before .before .before .nodes in
+    let start = f .before .before .before .before .before .before .before .before .before in
+    let a = start .args in
+    let few = nodes .ensures .1 in (
+      put .ensures .0,
+      exact-placed (a .file .now) (a .area .now) (put .last .1 .1 .1 .1 .1 .0) _ (found .last .1 .1 .1 .0) _ (found .last .1 .1 .1 .1 .0) _ (found .last .1 .1 .1 .1 .1 .0)
+          (a .place) (nodes .result) (links .result) (put .result) (λ i. f .before .before .before .before .before .before .before .before .shared-slice-known .given i .fits) (start .pre)
+          (links .ensures .0 ∙ links-said (a .file .now) (start .pre)) (found .ensures)
+          (back .before .before .dists2 .given, back .before .parents2 .given, back .marks2 .given) (few, few, few) (put .ensures .1),
+    )
 
 pub put-exact-spec : {M : Type 1} → statement M
 put-exact-spec =
@@ -90,21 +106,20 @@ put-exact-spec =
     (tie.spec
     nodes-requires
     links-requires
-    cast-l
     big16-requires
-    array-borrow-prefix-lows
-    slice-aggregate-put-found
-    array-borrow-prefix-highs
-    slice-aggregate-put-found-2
-    array-borrow-prefix-costs
-    slice-aggregate-put-found-3
-    slice-aggregate-put-found-4
     array-borrow-prefix-dists
-    slice-aggregate-put-found-5
+    slice-aggregate-find-apart
     array-borrow-prefix-parents
-    slice-aggregate-put-found-6
+    slice-aggregate-find-apart-2
     array-borrow-prefix-marks
-    slice-aggregate-put-found-7
-    put-found-requires
+    slice-aggregate-find-apart-3
+    find-apart-requires
+    array-share-prefix-dists
+    slice-aggregate-put-with-state
+    array-share-prefix-parents
+    slice-aggregate-put-with-state-2
+    array-share-prefix-marks
+    slice-aggregate-put-with-state-3
+    put-with-state-requires
     same-length
     returns)

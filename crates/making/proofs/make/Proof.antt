@@ -19,7 +19,10 @@ make-links-requires : tie.Need-make-links-requires
 make-links-requires c κs = search needs
 
 same-length : tie.Need-same-length
-same-length c = search needs
+same-length c =
+    let d = c .before .before .before .before .before .before in
+    let e = d .before .before .before .before in
+    c .before .before .make-links .kept .0 ∙ d .put162 .kept .0 ∙ e .put16 .kept .0 ∙ e .before .before .before .before .put-head .kept .0
 
 returns : tie.Need-returns
 unfolding fileOf
@@ -28,8 +31,8 @@ returns c =
     let e = d .before .before .before .before in
     let f = e .before .before .before .before in
     let a = f .before .before .before .before .before .before .before .before .args in
-    let g = file-go (a .out .now) (a .nodes) (a .root) (linksMade (a .links .now) (groupMade (a .group .now) (stateMade (a .nodes) (a .dists .now) (a .parents .now) (a .marks .now)))) in
-    (cc (g .0, c .before .before .make-links .ensures .0, d .put162 .ensures, e .put16 .ensures, f .put-head .ensures), c .before .before .make-links .ensures .1 ∙ g .1)
+    file-go (a .out .now) (a .nodes) (a .root) (linksMade (a .links .now) (groupMade (a .group .now) (stateMade (a .nodes) (a .dists .now) (a .parents .now) (a .marks .now))))
+    (f .put-head .ensures) (e .put16 .ensures) (d .put162 .ensures) (c .before .before .make-links .ensures)
 
 pub make-spec : {M : Type 1} → statement M
 make-spec =

@@ -20,8 +20,8 @@ returns : tie.Need-returns
 unfolding groupMade
 returns c =
     let a = c .before .before .before .before .before .before .before .before .before .before .args in
-    let s = made-stop (a .out .now) (a .at) 3 _ (a .group .now) (stateMade (a .nodes) (a .dists .now) (a .parents .now) (a .marks .now)) (ne-eqb _ _ (c .before .before .before .before .if1 .taken)) in
-    (c .before .before .put-head .ensures ∙ s .0, s .1)
+    made-stop (a .out .now) (a .at) 3 _ (a .group .now) (stateMade (a .nodes) (a .dists .now) (a .parents .now) (a .marks .now)) (ne-eqb _ _ (c .before .before .before .before .if1 .taken))
+    (c .before .before .put-head .ensures)
 
 put-head-requires-2 : tie.Need-put-head-requires-2
 put-head-requires-2 c κs = search needs
@@ -39,15 +39,17 @@ make-state-requires : tie.Need-make-state-requires
 make-state-requires c κs = search needs
 
 same-length-2 : tie.Need-same-length-2
-same-length-2 c = search needs
+same-length-2 c =
+    let d = c .before .before .before .before .before .before in
+    c .before .before .make-state .kept .0 ∙ d .put-bytes .kept .0 ∙ d .before .before .before .before .put-head2 .kept .0
 
 returns-2 : tie.Need-returns-2
 returns-2 c =
     let d = c .before .before .before .before .before .before in
     let e = d .before .before .before .before in
     let a = e .before .before .before .before .before .before .before .before .args in
-    let g = group-go (a .out .now) (a .at) (a .group .now) (stateMade (a .nodes) (a .dists .now) (a .parents .now) (a .marks .now)) (e .before .before .if1 .left) in
-    (cc (g .0, c .before .before .make-state .ensures .0, d .put-bytes .ensures, e .put-head2 .ensures), c .before .before .make-state .ensures .1 ∙ g .1)
+    group-go (a .out .now) (a .at) (a .group .now) (stateMade (a .nodes) (a .dists .now) (a .parents .now) (a .marks .now)) (e .before .before .if1 .left)
+    (e .put-head2 .ensures) (d .put-bytes .ensures) (c .before .before .make-state .ensures)
 
 pub make-group-spec : {M : Type 1} → statement M
 make-group-spec =

@@ -1,6 +1,8 @@
 -- A byte and the two behind it are one store.
+use mathlib.Core.List.{[], _∷_}
+use mathlib.Core.Path.{refl, _∙_}
 use Rattle.wire.specs.Big.{bytesOf}
-use Rattle.making.proofs.MakeLaws.{head-put}
+use Rattle.wire.proofs.BigLaws.{put-both}
 use borrow.Author.Needs.{needs}
 use Rattle.making.proofs.put_head.Statement.{statement}
 use Rattle.making.proofs.put_head.Tie as tie
@@ -15,14 +17,13 @@ put16-requires : tie.Need-put16-requires
 put16-requires c κs = search needs
 
 same-length : tie.Need-same-length
-same-length c = search needs
+same-length c = c .before .before .put16 .kept .0 ∙ c .before .before .before .before .before .before .put-byte .kept .0
 
 returns : tie.Need-returns
 returns c =
     let d = c .before .before .before .before .before .before in
     let a = d .before .before .before .args in
-    let h = head-put (a .out .now) (a .at) (a .tag) (bytesOf 2 (a .size)) in
-    cc (h, c .before .before .put16 .ensures, d .put-byte .ensures)
+    put-both (a .out .now) (a .at) _ (a .tag ∷ []) (bytesOf 2 (a .size)) refl (d .put-byte .ensures) (c .before .before .put16 .ensures)
 
 pub put-head-spec : {M : Type 1} → statement M
 put-head-spec = tie.close (tie.spec put-byte-requires add-put16 put16-requires same-length returns)

@@ -1,6 +1,6 @@
 -- Where there is room, the file is in the area, and the part that holds it takes the new state.
 use Prim.Native.Nat.{ℕ, _+_, _*_}
-use mathlib.Core.Path.{_≡_, sym, ap, _∙_}
+use mathlib.Core.Path.{sym, ap, _∙_}
 use mathlib.Core.List.{List}
 use native.Mathlib.Omega.{arith}
 use Rattle.park.specs.declared.answer.Verdict.{Verdict}

@@ -1,5 +1,5 @@
 -- The refusals before the rounds come first; behind them is what the run of the checked file answers.
-use mathlib.Core.Path.{_≡_, sym, _∙_}
+use mathlib.Core.Path.{sym, _∙_}
 use Rattle.running.proofs.RunFileLaws.{run-refused, run-ready, ready-fine}
 use borrow.Author.Needs.{needs}
 use Rattle.running.proofs.run.Statement.{statement}

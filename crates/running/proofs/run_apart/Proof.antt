@@ -1,8 +1,7 @@
 -- The slices hold the columns of the file, so the run over them is the run of the file's park from its state.
-use mathlib.Core.Path.{sym, _∙_}
-use Rattle.running.proofs.LentLaws.{part, room-again, part-again}
+use mathlib.Core.Path.{refl, sym, _∙_}
+use Rattle.apart.proofs.LentLaws.{part, room-again, part-again}
 use Rattle.running.proofs.RunFileLaws.{ran-apart}
-use borrow.Author.Needs.{needs}
 use Rattle.running.proofs.run_apart.Statement.{statement}
 use Rattle.running.proofs.run_apart.Tie as tie
 
@@ -25,16 +24,16 @@ slice-aggregate-take-links-3 : tie.Need-slice-aggregate-take-links-3
 slice-aggregate-take-links-3 c = part _ _ (c .before .before .before .before .before .before .before .pre .0 .3)
 
 take-links-requires : tie.Need-take-links-requires
-take-links-requires c κs = search needs
+take-links-requires c κs = tt
 
 slice-aggregate-take-group : tie.Need-slice-aggregate-take-group
-slice-aggregate-take-group c = search needs
+slice-aggregate-take-group c = refl
 
 take-group-requires : tie.Need-take-group-requires
-take-group-requires c κs = search needs
+take-group-requires c κs = tt
 
 take-state-requires : tie.Need-take-state-requires
-take-state-requires c κs = search needs
+take-state-requires c κs = tt
 
 array-share-prefix-lows : tie.Need-array-share-prefix-lows
 array-share-prefix-lows c =
@@ -88,7 +87,7 @@ slice-aggregate-run-7 : tie.Need-slice-aggregate-run-7
 slice-aggregate-run-7 c = part _ _ (c .before .before .before .before .before .before .before .before .before .before .before .before .before .before .before .before .before .before .before .before .before .before .before .before .before .before .before .before .before .before .before .before .before .before .pre .1 .3)
 
 run-requires : tie.Need-run-requires
-run-requires c κs = search needs
+run-requires c κs = tt
 
 same-length : tie.Need-same-length
 same-length c = c .before .before .before .before .before .before .before .before .before .run .kept .1 .1 .1 .1 .1 .1 .0 ∙ c .before .before .before .before .before .before .before .before .before .before .before .before .before .before .before .before .before .before .before .before .before .before .before .before .before .before .take-state .kept .1 .1 .0

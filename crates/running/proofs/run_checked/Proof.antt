@@ -3,7 +3,7 @@
 use Prim.Native.Nat.{ℕ, _/_, _≤_}
 use mathlib.Core.Path.{sym, ap, subst, _∙_}
 use mathlib.Core.List.{List}
-use Rattle.running.proofs.LentLaws.{part, room-again, part-again}
+use Rattle.apart.proofs.LentLaws.{part, room-again, part-again}
 use Rattle.park.proofs.ParkLaws.{nodes-room, links-room}
 use Rattle.running.proofs.RunFileLaws.{ends-refused, ends-done}
 use borrow.Author.Needs.{needs}
@@ -11,16 +11,16 @@ use Rattle.running.proofs.run_checked.Statement.{statement}
 use Rattle.running.proofs.run_checked.Tie as tie
 
 big16-requires : tie.Need-big16-requires
-big16-requires c κs = search needs
+big16-requires c κs = tt
 
 cast-n : tie.Need-cast-n
 cast-n c = search needs
 
 big16-requires-2 : tie.Need-big16-requires-2
-big16-requires-2 c κs = search needs
+big16-requires-2 c κs = tt
 
 big16-requires-3 : tie.Need-big16-requires-3
-big16-requires-3 c κs = search needs
+big16-requires-3 c κs = tt
 
 array-borrow-prefix-dists : tie.Need-array-borrow-prefix-dists
 array-borrow-prefix-dists c = let n = c .before .before in nodes-room _ _ (n .before .before .before .pre .0) (n .big16 .ensures)
@@ -53,7 +53,7 @@ run-apart-requires c κs =
     )
 
 unsettled-requires : tie.Need-unsettled-requires
-unsettled-requires c κs = search needs
+unsettled-requires c κs = tt
 
 enum-known-found : tie.Need-enum-known-found
 enum-known-found c = search needs
@@ -105,7 +105,7 @@ slice-aggregate-put-with-state-3 c =
     part-again _ (r .run-apart .last .1 .1 .1 .1 .1 .1 .0) _ (c .before .before .before .before .before .before .marks2 .given) (nodes-room _ _ (n .before .before .before .pre .0) (n .big16 .ensures))
 
 put-with-state-requires : tie.Need-put-with-state-requires
-put-with-state-requires c κs = search needs
+put-with-state-requires c κs = tt
 
 same-length : tie.Need-same-length
 same-length c = search needs

@@ -1,4 +1,5 @@
 -- Three stores one behind the other are one.
+use mathlib.Core.Path.{_∙_}
 use Rattle.storing.proofs.StateLaws.{cell-put}
 use borrow.Author.Needs.{needs}
 use Rattle.storing.proofs.put_cell.Statement.{statement}
@@ -20,15 +21,16 @@ put-byte-requires : tie.Need-put-byte-requires
 put-byte-requires c κs = search needs
 
 same-length : tie.Need-same-length
-same-length c = search needs
+same-length c =
+    let d = c .before .before .before .before .before .before in
+    c .before .before .put-byte .kept .0 ∙ d .put16 .kept .0 ∙ d .before .before .before .before .put32 .kept .0
 
 returns : tie.Need-returns
 returns c =
     let d = c .before .before .before .before .before .before in
     let e = d .before .before .before .before in
     let a = e .before .before .before .args in
-    let p = cell-put (a .area .now) (a .at) (a .dist) (a .parent) (a .mark) in
-    cc (p, c .before .before .put-byte .ensures, d .put16 .ensures, e .put32 .ensures)
+    cell-put (a .area .now) (a .at) (a .dist) (a .parent) (a .mark) (e .put32 .ensures) (d .put16 .ensures) (c .before .before .put-byte .ensures)
 
 pub put-cell-spec : {M : Type 1} → statement M
 put-cell-spec =

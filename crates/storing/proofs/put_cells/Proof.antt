@@ -7,7 +7,7 @@ use Rattle.wire.proofs.BigLaws.{sets-out}
 use Rattle.park.specs.ParkFile.{stateBytes}
 use Rattle.slices.specs.Slices.{cellsOf}
 use Rattle.storing.proofs.StateLaws.{rest, put-turn, no-dists, no-parents, no-marks}
-use borrow.Author.Needs.{needs}
+use borrow.Author.Needs.{needs, scaled-fits}
 use Rattle.storing.proofs.put_cells.Statement.{statement}
 use Rattle.storing.proofs.put_cells.Tie as tie
 
@@ -48,22 +48,26 @@ returns-3 c =
     sym (sets-out (l .area) (l .at) (rest (a .dists .now) (a .parents .now) (a .marks .now) (l .i)) (c .if3 .taken)) ∙ l .inv .1
 
 mul-put-cell : tie.Need-mul-put-cell Inv-loop μ-loop
-mul-put-cell c = search needs
+mul-put-cell c =
+    let test = c .before .before .before .before in
+    scaled-fits (test .before .loop .i) _ 4 (test .loop-test .taken) (test .before .before .before .before .before .before .good .1 .1 .0 .1)
 
 shared-slice-read-put-cell : tie.Need-shared-slice-read-put-cell Inv-loop μ-loop
-shared-slice-read-put-cell c = search needs
+shared-slice-read-put-cell c = c .before .before .before .before .before .loop-test .taken
 
 mul-put-cell-2 : tie.Need-mul-put-cell-2 Inv-loop μ-loop
-mul-put-cell-2 c = search needs
+mul-put-cell-2 c =
+    let test = c .before .before .before .before in
+    scaled-fits (test .before .before .loop .i) _ 2 (test .if1 .left) (test .before .before .before .before .before .before .before .good .1 .1 .1 .0 .1)
 
 shared-slice-read-put-cell-2 : tie.Need-shared-slice-read-put-cell-2 Inv-loop μ-loop
-shared-slice-read-put-cell-2 c = search needs
+shared-slice-read-put-cell-2 c = c .before .before .before .before .before .if1 .left
 
 shared-slice-read-put-cell-3 : tie.Need-shared-slice-read-put-cell-3 Inv-loop μ-loop
-shared-slice-read-put-cell-3 c = search needs
+shared-slice-read-put-cell-3 c = c .before .before .before .before .before .if2 .left
 
 put-cell-requires : tie.Need-put-cell-requires Inv-loop μ-loop
-put-cell-requires c κs = search needs
+put-cell-requires c κs = c .before .before .before .before .if3 .left
 
 add-at : tie.Need-add-at Inv-loop μ-loop
 add-at c = search needs

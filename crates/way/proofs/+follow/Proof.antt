@@ -1,7 +1,6 @@
 -- `way::follow` meets its contract: each way out of it is one of the four ways on from a node. The measure is the hops still allowed.
 use native.Mathlib.Omega.{arith}
-use mathlib.Core.Path.{sym, ap, _∙_}
-use Rattle.way.specs.Way.{outcomeOf}
+use mathlib.Core.Path.{sym, _∙_}
 use Rattle.way.proofs.FollowLaws.{at-root, no-hop-left, over-hop, broken-here}
 use Prim.Native.Nat.{ℕ, _<_}
 use borrow.Fn.Kinds.{In}
@@ -31,7 +30,7 @@ follow-returns : (t : ℕ) → follow-lts.Need-returns (
   follow-below t,
   follow.Post,
 ) (follow-at t) follow.Post
-follow-returns t c = sym (ap outcomeOf (at-root _ _ _ _ _ _ (c .if1 .taken)))
+follow-returns t c = sym (at-root _ _ _ _ _ _ (c .if1 .taken))
 
 follow-returns-2 : (t : ℕ) → follow-lts.Need-returns-2 (
   parent-reads.Asked,
@@ -41,7 +40,7 @@ follow-returns-2 : (t : ℕ) → follow-lts.Need-returns-2 (
   follow-below t,
   follow.Post,
 ) (follow-at t) follow.Post
-follow-returns-2 t c = sym (ap outcomeOf (no-hop-left _ _ _ _ _ _ (c .before .before .if1 .left) (c .if2 .taken)))
+follow-returns-2 t c = sym (no-hop-left _ _ _ _ _ _ (c .before .before .if1 .left) (c .if2 .taken))
 
 follow-parent-requires : (t : ℕ) → follow-lts.Need-parent-requires (
   parent-reads.Asked,
@@ -101,7 +100,7 @@ follow-returns-3 : (t : ℕ) → follow-lts.Need-returns-3 (
   follow-below t,
   follow.Post,
 ) (follow-at t) follow.Post
-follow-returns-3 t c = c .follow .ensures ∙ sym (ap outcomeOf (over-hop _ _ _ _ _ _ (c .before .before .before .before .before .before .before .before .if1 .left) (c .before .before .before .before .before .before .if2 .left) _ (c .before .before .before .before .before .parent .ensures) (sym (c .before .before .before .if3 .taken) ∙ c .before .before .before .before .is-neighbour .ensures)))
+follow-returns-3 t c = c .follow .ensures ∙ sym (over-hop _ _ _ _ _ _ (c .before .before .before .before .before .before .before .before .if1 .left) (c .before .before .before .before .before .before .if2 .left) _ (c .before .before .before .before .before .parent .ensures) (sym (c .before .before .before .if3 .taken) ∙ c .before .before .before .before .is-neighbour .ensures))
 
 follow-returns-4 : (t : ℕ) → follow-lts.Need-returns-4 (
   parent-reads.Asked,
@@ -111,7 +110,7 @@ follow-returns-4 : (t : ℕ) → follow-lts.Need-returns-4 (
   follow-below t,
   follow.Post,
 ) (follow-at t) follow.Post
-follow-returns-4 t c = sym (ap outcomeOf (broken-here _ _ _ _ _ _ (c .before .before .before .before .before .if1 .left) (c .before .before .before .if2 .left) _ (c .before .before .parent .ensures) (sym (c .if3 .left) ∙ c .before .is-neighbour .ensures)))
+follow-returns-4 t c = sym (broken-here _ _ _ _ _ _ (c .before .before .before .before .before .if1 .left) (c .before .before .before .if2 .left) _ (c .before .before .parent .ensures) (sym (c .if3 .left) ∙ c .before .is-neighbour .ensures))
 
 pub +follow-spec : {M : Type 1} → statement M
 +follow-spec = close μ-follow λ t. follow-lts.spec (

@@ -4,7 +4,8 @@ use mathlib.Core.Path.{_≡_, sym, _∙_}
 use borrow.Author.Needs.{needs}
 use borrow.Author.Tests.{eq-eqb}
 use lib.ListN.{length}
-use Rattle.way.specs.Way.{neighbour, endsOf}
+use Rattle.way.specs.Way.{neighbour}
+use Rattle.way.specs.Ends.{endsOf}
 use Rattle.way.proofs.NeighbourLaws.{heardFrom, search-start, search-found, search-on, search-end, search-short}
 use Rattle.way.proofs.is_neighbour.Statement.{statement}
 use Rattle.way.proofs.is_neighbour.Tie as tie

@@ -1,13 +1,15 @@
 -- Two stores of a half are one store of the four bytes.
 use Rattle.wire.specs.Big.{bytesOf}
-use mathlib.Core.Path.{sym}
-use Rattle.wire.proofs.BigLaws.{sets-out, sets-append, bytes-four, length-bytesOf}
+use mathlib.Core.Path.{sym, _∙_}
+use Rattle.wire.proofs.BigLaws.{sets-out, put-four}
 use borrow.Author.Needs.{needs}
 use Rattle.wire.proofs.put32.Statement.{statement}
 use Rattle.wire.proofs.put32.Tie as tie
 
 returns : tie.Need-returns
-returns c = sym (sets-out _ _ (bytesOf 4 (c .before .before .args .x)) (c .if1 .taken))
+returns c =
+    let a = c .before .before .args in
+    sym (sets-out (a .s .now) (a .place) (bytesOf 4 (a .x)) (c .if1 .taken))
 
 cast-put16 : tie.Need-cast-put16
 cast-put16 c = search needs
@@ -25,10 +27,13 @@ put16-requires-2 : tie.Need-put16-requires-2
 put16-requires-2 c κs = search needs
 
 same-length : tie.Need-same-length
-same-length c = search needs
+same-length c = c .before .before .put162 .kept .0 ∙ c .before .before .before .before .before .before .put16 .kept .0
 
 returns-2 : tie.Need-returns-2
-returns-2 c = rw (bytes-four, ← sets-append, length-bytesOf) (cc)
+returns-2 c =
+    let d = c .before .before .before .before .before .before in
+    let a = d .before .before .before .before .args in
+    put-four (a .s .now) (a .place) (a .x) (d .put16 .ensures) (c .before .before .put162 .ensures)
 
 pub put32-spec : {M : Type 1} → statement M
 put32-spec =

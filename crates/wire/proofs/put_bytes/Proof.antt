@@ -1,7 +1,7 @@
 -- What is put and what is still to put are all the bytes.
 use mathlib.Core.Path.{_≡_, refl, sym, _∙_, ap}
 use Prim.Native.Nat.{_-_}
-use lib.ListN.{length, drop, drop-of-length-le}
+use lib.ListN.{length, drop, drop-of-length-le, length-set}
 use lib.Seq.{sets}
 use Rattle.wire.proofs.BigLaws.{bytes-turn, sets-out}
 use borrow.Author.Needs.{needs}
@@ -23,14 +23,14 @@ same-length c = c .before .before .loop .inv .0
 returns : tie.Need-returns Inv-loop μ-loop
 returns c =
     let l = c .before .before .loop in
-    let a = c .before .before .before .before .before .args in
+    let a = c .before .before .before .args in
     sym (sets-out (l .s) (l .at) (drop (l .i) (a .bytes .now)) (c .if1 .taken)) ∙ l .inv .1
 
-shared-slice-read-put-byte : tie.Need-shared-slice-read-put-byte Inv-loop μ-loop
-shared-slice-read-put-byte c = search needs
+shared-slice-read-s : tie.Need-shared-slice-read-s Inv-loop μ-loop
+shared-slice-read-s c = search needs
 
-put-byte-requires : tie.Need-put-byte-requires Inv-loop μ-loop
-put-byte-requires c κs = search needs
+slice-write-s : tie.Need-slice-write-s Inv-loop μ-loop
+slice-write-s c = search needs
 
 add-at : tie.Need-add-at Inv-loop μ-loop
 add-at c = search needs
@@ -43,11 +43,9 @@ loop-less c = search needs
 
 loop-again : tie.Need-loop-again Inv-loop μ-loop
 loop-again c =
-    let d = c .before .before .before .before .before in
-    let l = d .before .before .loop in
-    let a = d .before .before .before .before .before .args in
-    let t = bytes-turn _ (l .s) (a .bytes .now) (l .at) (l .i) (d .before .loop-test .taken) (l .inv .1) in
-    (c .before .before .put-byte .kept .0 ∙ l .inv .0, rw (← c .before .before .put-byte .ensures) at t)
+    let l = c .before .before .before .loop in
+    let a = c .before .before .before .before .args in
+    (length-set (l .s) (l .at) _ ∙ l .inv .0, bytes-turn _ (l .s) (a .bytes .now) (l .at) (l .i) (c .before .before .loop-test .taken) (l .inv .1))
 
 same-length-2 : tie.Need-same-length-2 Inv-loop μ-loop
 same-length-2 c = c .before .loop .inv .0
@@ -55,7 +53,7 @@ same-length-2 c = c .before .loop .inv .0
 returns-2 : tie.Need-returns-2 Inv-loop μ-loop
 returns-2 c =
     let l = c .before .loop in
-    let a = c .before .before .before .before .args in
+    let a = c .before .before .args in
     ap (sets (l .s) (l .at)) (sym (drop-of-length-le (a .bytes .now) {i = l .i} (c .loop-test .left))) ∙ l .inv .1
 
 pub put-bytes-spec : {M : Type 1} → statement M
@@ -67,8 +65,8 @@ put-bytes-spec =
     loop-holds
     same-length
     returns
-    shared-slice-read-put-byte
-    put-byte-requires
+    shared-slice-read-s
+    slice-write-s
     add-at
     add-i
     loop-less

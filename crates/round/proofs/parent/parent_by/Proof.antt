@@ -1,10 +1,6 @@
 -- `round::parent::parent_by` meets its contract: the root has none, and any other node the sender of the arc that its search keeps.
 use borrow.Author.Needs.{needs}
 use mathlib.Core.Path.{sym, _∙_}
-use lib.ListN.{length}
-use Rattle.measure.specs.Measure.{ceiling}
-use Rattle.slices.specs.Slices.{linksOf}
-use Rattle.slices.specs.Reading.{nodeAt}
 use Rattle.tables.proofs.FitLaws.{even-true}
 use Rattle.round.proofs.ParentByLaws.{by-even, by-odd, by-root, by-search}
 use Rattle.round.proofs.parent.parent_by.Statement.{statement}

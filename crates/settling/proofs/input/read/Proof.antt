@@ -3,7 +3,7 @@ use borrow.Author.Needs.{needs}
 use Prim.Native.Nat.{_-_, _≤_}
 use mathlib.Core.Path.{_≡_}
 use lib.ListN.{length}
-use Rattle.settling.proofs.CountsLaws.{counts}
+use Rattle.telling.proofs.CountsLaws.{counts}
 use Rattle.settling.proofs.input.read.Statement.{statement}
 use Rattle.settling.proofs.input.read.Tie as tie
 

@@ -1,0 +1,3 @@
+pub mod LowerLaws
+pub mod SettleLaws
+pub mod TurnLaws

@@ -1,0 +1,99 @@
+-- `offering::offer_all` meets its contract: what the links from here on leave is what all of them leave.
+use borrow.Author.Needs.{needs}
+use Prim.Native.Nat.{ℕ, _-_}
+use native.Mathlib.Nat.{le-of-eq, lt-of-lt-of-le}
+use mathlib.Core.Path.{_≡_, refl, sym, ap}
+use lib.ListN.{length, drop}
+use Rattle.measure.specs.Measure.{ceiling}
+use Rattle.slices.specs.Slices.{linksOf}
+use Rattle.slices.specs.Reading.{nodeAt}
+use Rattle.marking.proofs.LoopLaws.{falls}
+use Rattle.offering.specs.Offering.{offeredAll}
+use Rattle.offering.proofs.TurnLaws.{offer-next, offer-end}
+use Rattle.offering.proofs.offer_all.Statement.{statement}
+use Rattle.offering.proofs.offer_all.Tie as tie
+
+abbrev Inv-loop : tie.InvT-loop
+Inv-loop node lows highs costs dists₀ dist at₀ dists at =
+    (length dists ≡ length dists₀)
+    × (offeredAll node (dist .0) dists (drop at (linksOf lows highs costs)) ≡ offeredAll node (nodeAt ceiling dists₀ node) dists₀ (linksOf lows highs costs))
+
+abbrev μ-loop : tie.MeasureT-loop
+μ-loop node lows highs costs dists₀ dist at₀ dists at = length lows - at
+
+dist-at-requires : tie.Need-dist-at-requires Inv-loop μ-loop
+dist-at-requires c κs = search needs
+
+loop-holds : tie.Need-loop-holds Inv-loop μ-loop
+loop-holds c =
+    let a = c .before .before .before .before .before .before .args in
+    (refl, ap (λ (d : ℕ). offeredAll (a .node) d (a .dists .now) (linksOf (a .lows .now) (a .highs .now) (a .costs .now))) (c .dist-at .ensures))
+
+mul-other-end : tie.Need-mul-other-end Inv-loop μ-loop
+mul-other-end c = search needs
+
+shared-slice-read-other-end : tie.Need-shared-slice-read-other-end Inv-loop μ-loop
+shared-slice-read-other-end c = c .before .loop-test .taken
+
+mul-other-end-2 : tie.Need-mul-other-end-2 Inv-loop μ-loop
+mul-other-end-2 c = search needs
+
+shared-slice-read-other-end-2 : tie.Need-shared-slice-read-other-end-2 Inv-loop μ-loop
+shared-slice-read-other-end-2 c =
+    let pre = c .before .before .before .before .before .before .before .before .before .before .pre in
+    lt-of-lt-of-le (c .before .before .loop-test .taken) (le-of-eq (sym (pre .0)))
+
+other-end-requires : tie.Need-other-end-requires Inv-loop μ-loop
+other-end-requires c κs = search needs
+
+mul-offer-to : tie.Need-mul-offer-to Inv-loop μ-loop
+mul-offer-to c = search needs
+
+shared-slice-read-offer-to : tie.Need-shared-slice-read-offer-to Inv-loop μ-loop
+shared-slice-read-offer-to c =
+    let test = c .before .before .before .before .before in
+    lt-of-lt-of-le (test .loop-test .taken) (le-of-eq (sym (test .before .before .before .before .before .before .before .before .pre .1)))
+
+offer-to-requires : tie.Need-offer-to-requires Inv-loop μ-loop
+offer-to-requires c κs = search needs
+
+add-at : tie.Need-add-at Inv-loop μ-loop
+add-at c = search needs
+
+loop-less : tie.Need-loop-less Inv-loop μ-loop
+loop-less c = falls _ _ (c .before .before .before .before .before .before .before .before .loop-test .taken)
+
+loop-again : tie.Need-loop-again Inv-loop μ-loop
+loop-again c =
+    let end = c .before .before .before .before .before in
+    let test = end .before .before .before in
+    let pre = test .before .before .before .before .before .before .before .before .pre in
+    (search needs, offer-next _ _ _ _ _ _ _ _ (test .before .loop .inv .1) pre (test .loop-test .taken) _ (end .other-end .ensures) _ (c .before .before .offer-to .ensures))
+
+same-length : tie.Need-same-length Inv-loop μ-loop
+same-length c = search needs
+
+returns : tie.Need-returns Inv-loop μ-loop
+returns c = offer-end _ _ _ _ _ _ _ _ (c .before .loop .inv .1) (c .loop-test .left)
+
+pub offer-all-spec : {M : Type 1} → statement M
+offer-all-spec =
+    tie.close
+    (tie.spec
+    Inv-loop
+    μ-loop
+    dist-at-requires
+    loop-holds
+    mul-other-end
+    shared-slice-read-other-end
+    mul-other-end-2
+    shared-slice-read-other-end-2
+    other-end-requires
+    mul-offer-to
+    shared-slice-read-offer-to
+    offer-to-requires
+    add-at
+    loop-less
+    loop-again
+    same-length
+    returns)

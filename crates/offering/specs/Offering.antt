@@ -1,0 +1,61 @@
+-- How exact distances are found without rounds: the nearest node that is not settled is settled, and its distance is offered
+-- over each of its links; once for each node. That these are the exact distances is a theorem.
+-- Distances are in cost units, node 1's first.
+use Prim.Native.Nat.{ℕ, zero, suc, min}
+use mathlib.Core.Bool.{Bool, cond, _&&_}
+use mathlib.Core.List.{List, [], _∷_}
+use lib.ListN.{getD, set, replicate}
+use lib.Dec.{leb, eqb}
+use Rattle.measure.specs.Measure.{ceiling, plus}
+use Rattle.rule.specs.Round.{Link}
+use Rattle.slices.specs.Reading.{nodeAt}
+use Rattle.tables.specs.Fit.{even}
+use Rattle.marking.specs.Flag.{withMark}
+use Rattle.nearest.specs.Nearest.{Work, nearest}
+
+-- the distances with node i's lowered to an offer that is less; a number that is no node has none
+unfoldable pub lowered : List ℕ → ℕ → ℕ → List ℕ
+lowered D zero offer = D
+lowered D (suc k) offer = set D k (min (getD D k 0) offer)
+
+-- the end of a link between these two that is not node u; 0 where u is none of them
+abbrev pub otherEnd : ℕ → ℕ → ℕ → ℕ
+otherEnd low high u = cond (eqb low u) high (cond (eqb high u) low 0)
+
+-- node u at distance d makes its offer over one link
+unfoldable pub offered : ℕ → ℕ → List ℕ → Link → List ℕ
+offered u d D l =
+    cond (eqb (l .low) u) (lowered D (l .high) (plus d (l .cost)))
+    (cond (eqb (l .high) u) (lowered D (l .low) (plus d (l .cost))) D)
+
+-- and over all of them
+unfoldable pub offeredAll : ℕ → ℕ → List ℕ → List Link → List ℕ
+offeredAll u d D [] = D
+offeredAll u d D (l ∷ ls) = offeredAll u d (offered u d D l) ls
+
+-- node u is settled
+unfoldable pub settleNode : List Link → Work → ℕ → Work
+settleNode ls w zero = w
+settleNode ls w (suc k) =
+    record { dists = offeredAll (suc k) (nodeAt ceiling (w .dists) (suc k)) (w .dists) ls; done = withMark (w .done) (suc k) }
+
+-- one turn: the nearest node that is not settled is settled
+unfoldable pub settleNearest : List Link → Work → Work
+settleNearest ls w = settleNode ls w (nearest w)
+
+-- so many turns
+unfoldable pub settleNodes : List Link → ℕ → Work → Work
+settleNodes ls zero w = w
+settleNodes ls (suc left) w = settleNodes ls left (settleNearest ls w)
+
+-- to begin with, only the root has a distance, and no node is settled
+unfoldable pub unsettled : ℕ → ℕ → Work
+unsettled n root = record { dists = lowered (replicate n ceiling) root 0; done = replicate n 0 }
+
+-- whether there is room to search: the parts of the links equally long, and at most 256 nodes
+abbrev pub searchable : ℕ → ℕ → ℕ → ℕ → Bool
+searchable lows highs costs n = even lows highs costs && leb n 256
+
+-- the distances of n nodes
+unfoldable pub distsFrom : ℕ → ℕ → List Link → List ℕ
+distsFrom n root ls = settleNodes ls n (unsettled n root) .dists
