@@ -1,10 +1,10 @@
-// What Run refuses: the file's own refusal, the count's and the area's before any round, and after the rounds a table that
+// What Run refuses of a checked file: the count's refusal and the area's before any round, and after the rounds a table that
 // is not quiet. No round is done here, and nothing is written. Counts are in rounds, sizes and places in bytes.
 use measure::Rounds;
 use park::answer::Verdict;
-use park::refusal::Refusal;
+use refusals::Refusal;
 ghost use mathlib.Core.Path.{_≡_};
-ghost use Rattle.writing.specs.Area.{roomFor};
+ghost use Rattle.area.specs.Area.{roomFor};
 ghost use Rattle.allowing.specs.Allowing.{readyFor, settled};
 
 // Whether a file of so many bytes has room in an area from a place on.
@@ -20,19 +20,15 @@ fn room(size: usize, area: usize, place: usize) -> Verdict
     Verdict::Fine
 }
 
-// The refusals that come before any round: the file's own, the count's, the area's.
-pub fn ready(file: &[u8], count: Rounds, area: usize, place: usize) -> Verdict
-    ensures { λ r. ⌜ r ≡ readyFor (now (file .entry)) (count .0) area place ⌝ }
+// The refusals that come before any round of a file of so many bytes: the count's, the area's.
+pub fn ready(count: Rounds, size: usize, area: usize, place: usize) -> Verdict
+    ensures { λ r. ⌜ r ≡ readyFor (count .0) size area place ⌝ }
 {
-    let found = checking::verdict(file);
-    if let Verdict::Refused(r) = found {
-        return Verdict::Refused(r);
-    }
     let most = Rounds::MOST;
     if most.0 < count.0 {
         return Verdict::Refused(Refusal::Count);
     }
-    room(file.len(), area, place)
+    room(size, area, place)
 }
 
 // The refusal that comes after the rounds: all that there are were done, and the table is not quiet.

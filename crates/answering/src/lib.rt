@@ -1,32 +1,23 @@
 // The answers of the seven calls as eight numbers: the refusal's number (0 for none), its place in bytes, then the call's
-// own values; a value that is not used is 0. Each function gives what specs/Values.antt of chandvreksh says.
-use asking::WayAnswer;
-use exacting::ExactAnswer;
-use judging::RightAnswer;
+// own values; a value that is not used is 0. Each function gives what specs/Values.antt of answers says.
+use answers::ExactAnswer;
+use answers::RightAnswer;
+use answers::RunAnswer;
+use answers::SummaryAnswer;
+use answers::WayAnswer;
+use answers::Written;
 use park::answer::Checked;
-use park::refusal::Refusal;
-use running::RunAnswer;
-use summing::SummaryAnswer;
+use refusing::refusal_values;
 use way::Outcome;
-use writing::Written;
 ghost use mathlib.Core.Path.{_≡_};
 ghost use mathlib.Core.Bool.{cond};
-ghost use Rattle.chandvreksh.specs.Values.{values as valuesOf, refusalValues, checkValues, runValues, exactValues, writeValues, rightValues, outcomeValues, wayValues, summaryValues};
+ghost use Rattle.answers.specs.Values.{values as valuesOf, checkValues, runValues, exactValues, writeValues, rightValues, outcomeValues, wayValues, summaryValues};
 
 // The values of a call that did not refuse, behind no number and no place.
 fn values(a: u32, b: u32, c: u32) -> [u64; 8]
     ensures { λ r. ⌜ r ≡ valuesOf a b c ⌝ }
 {
     [0, 0, a as u64, b as u64, c as u64, 0, 0, 0]
-}
-
-// A refusal: its number, and its place in bytes.
-fn refusal_values(refusal: Refusal) -> [u64; 8]
-    ensures { λ r. ⌜ r ≡ refusalValues refusal ⌝ }
-{
-    let number = refusal.number() as u64;
-    let place = refusal.place() as u64;
-    [number, place, 0, 0, 0, 0, 0, 0]
 }
 
 // Check's answer: nodes, links.

@@ -1,5 +1,5 @@
 -- What is taken apart is what the file holds: the columns of a file that is read are the links, the state and the park of the file.
-use Prim.Native.Nat.{ℕ, zero, suc, _+_, _*_, _-_, _/_, _%_, _^_, _≤_, _<_, min}
+use Prim.Native.Nat.{ℕ, zero, suc, _+_, _*_, _-_, _/_, _%_, _^_, _≤_, _<_}
 use mathlib.Core.Path.{_≡_, refl, sym, ap, fun-ext, _∙_}
 use mathlib.Core.List.{List}
 use native.Mathlib.Nat.{add-zero, mul-assoc, add-mul-div-left}
@@ -12,13 +12,12 @@ use lib.Pow.{pow-pos, pow-add, shr-shr}
 use Rattle.rule.specs.Round.{Cell, Park}
 use Rattle.wire.specs.Big.{Bytes, big}
 use Rattle.wire.proofs.BigLaws.{big-one}
-use Rattle.slices.specs.Group.{bitSet, memberIn}
+use Rattle.group.specs.Group.{bitSet, memberIn}
 use Rattle.slices.specs.Slices.{linksOf, cellsOf, parkOf}
 use Rattle.park.specs.ParkFile.{parkIn}
 use Rattle.park.specs.declared.answer.Verdict.the-variants.{Fine}
-use Rattle.park.specs.Reading.{lengthAt, verdictOf, linksRead, cellsRead, fileIn, nodesIn, rootIn, linkCount, groupAt, stateAt}
+use Rattle.park.specs.Reading.{verdictOf, linksRead, cellsRead, fileIn, nodesIn, rootIn, linkCount, groupAt, stateAt}
 use Rattle.park.proofs.FieldLaws.{part, length-part}
-use Rattle.park.proofs.ParkLaws.{nodes-room, links-room}
 use Rattle.park.proofs.RoundTrip.{FileRead, file-read, six, length-read}
 use Rattle.columns.specs.Columns.{column, little}
 
@@ -134,12 +133,6 @@ module _ (s : List ℕ) (bytes : Bytes s) (r : FileRead s) where
 
 -- What was taken from a file that is not refused: the numbers of its nodes and links, and slices that hold its park and its table.
 module _ (s : List ℕ) (fine : verdictOf s ≡ Fine) where
-  pub nodes-said : min 256 (nodesIn s) ≡ nodesIn s
-  nodes-said = omega (arith, nodes-room s (nodesIn s) fine refl)
-
-  pub links-said : min 1024 (linkCount s) ≡ linkCount s
-  links-said = omega (arith, links-room s (lengthAt s 7) fine refl)
-
   pub nodes-here : nodesIn s ≡ fileIn s .nodes
   unfolding fileIn
   nodes-here = refl

@@ -1,30 +1,16 @@
--- The first part of an array, lent and lent again: the second time it holds what was left there the first time.
+-- Links taken into the first parts of arrays, which are lent again: the second time they hold the file's park.
 use Prim.Native.Nat.{ℕ, _+_, _*_, _≤_}
-use mathlib.Core.Path.{_≡_, refl, sym, subst, _∙_}
+use mathlib.Core.Path.{_≡_, refl, sym, _∙_}
 use mathlib.Core.List.{List, _++_}
 use lib.ListN.{length, take, drop}
-use lib.Seq.{length-take-le, length-front, take-at}
 use Rattle.wire.specs.Big.{Bytes, big}
 use Rattle.slices.specs.Slices.{parkOf}
+use Rattle.slices.proofs.PartLaws.{part, part-again, again}
 use Rattle.park.specs.ParkFile.{parkIn}
 use Rattle.park.specs.declared.answer.Verdict.the-variants.{Fine}
 use Rattle.park.specs.Reading.{verdictOf, fileIn, nodesIn, rootIn, linkCount}
 use Rattle.columns.specs.Columns.{column, little}
 use Rattle.apart.proofs.ApartLaws.{park-taken}
-
-pub part : (n : ℕ) (zs : List ℕ) → n ≤ length zs → n ≡ length (take n zs)
-part n zs h = sym (length-take-le n zs h)
-
--- xs came back in the place of the first n of zs
-module _ (n : ℕ) (xs zs : List ℕ) (kept : length xs ≡ length (take n zs)) (room : n ≤ length zs) where
-  pub room-again : n ≤ length (xs ++ drop n zs)
-  room-again = subst (λ (k : ℕ). n ≤ k) (sym (length-front zs xs n kept)) room
-
-  pub part-again : n ≡ length (take n (xs ++ drop n zs))
-  part-again = part n (xs ++ drop n zs) room-again
-
-  pub again : take n (xs ++ drop n zs) ≡ xs
-  again = take-at xs (drop n zs) n (kept ∙ length-take-le n zs room)
 
 -- the links of a file that is not refused, taken into the first l of three arrays that are then lent again
 module _ (s : List ℕ) (bytes : Bytes s) (fine : verdictOf s ≡ Fine) (l : ℕ) (el : l ≡ linkCount s) (zl ls zh hs zc cs : List ℕ)

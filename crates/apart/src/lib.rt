@@ -1,34 +1,11 @@
 // Taking a checked file apart into lent slices of plain numbers. Every call is total: a byte outside the file is read as 0.
 // State is taken as stored, not tidied. Places are in bytes.
 ghost use mathlib.Core.Path.{_≡_};
-ghost use Prim.Native.Nat.{ℕ, _+_, _*_, _≤_, min};
+ghost use Prim.Native.Nat.{ℕ, _+_, _*_};
 ghost use mathlib.Core.List.{List};
 ghost use lib.ListN.{length};
 ghost use Rattle.wire.specs.Big.{big};
-ghost use Rattle.park.specs.Reading.{nodesIn, linkCount};
 ghost use Rattle.columns.specs.Columns.{column, little};
-
-// The number of nodes that a file's head says; at most 256, as many as a park may have.
-pub fn nodes(file: &[u8]) -> usize
-    ensures { λ r. ⌜ (r ≡ min 256 (nodesIn (now (file .entry)))) × (r ≤ 256) ⌝ }
-{
-    let said = wire::number_at(file, 3);
-    if 256 < said {
-        return 256;
-    }
-    said
-}
-
-// The number of links by the length of their field; at most 1,024, as many as a park may have.
-pub fn links(file: &[u8]) -> u16
-    ensures { λ r. ⌜ (r ≡ min 1024 (linkCount (now (file .entry)))) × (r ≤ 1024) ⌝ }
-{
-    let said = wire::big16(file, 8) / 6;
-    if 1024 < said {
-        return 1024;
-    }
-    said
-}
 
 // Takes the links apart: lower ends, higher ends and costs (in cost units), as many as each slice has room for.
 pub fn take_links(file: &[u8], lows: &mut [u16], highs: &mut [u16], costs: &mut [u16])

@@ -1,28 +1,28 @@
 -- What Way answers, by the tests that led there; and the way over the columns of a checked file is the way in its park.
 use Prim.Native.Nat.{ℕ, _+_, _*_, _≤_, _<_}
-use mathlib.Core.Path.{_≡_, sym, ap, ap₂, _∙_}
-use mathlib.Core.List.{List}
-use native.Mathlib.Omega.{arith}
-use lib.ListN.{length}
-use borrow.Author.Tests.{le-leb, lt-leb}
-use Rattle.rule.specs.Round.{Cell, Park}
-use Rattle.wire.specs.Big.{Bytes, big}
-use Rattle.slices.specs.Slices.{cellsOf, parkOf}
-use Rattle.slices.specs.Reading.{nodeAt}
-use Rattle.park.specs.declared.refusal.Refusal.{Refusal}
-use Rattle.park.specs.declared.refusal.Refusal.the-variants.{Node}
-use Rattle.park.specs.declared.answer.Verdict.the-variants.{Fine, Refused}
+use Rattle.answers.specs.declared.WayAnswer as answer
+use Rattle.apart.proofs.ApartLaws.{length-column, park-here, state-here}
+use Rattle.asking.specs.Asking.{wayVerdict, wayAnswer}
+use Rattle.columns.specs.Columns.{column, little}
+use Rattle.neighbours.specs.Neighbours.{endsOf}
+use Rattle.park.proofs.RoundTrip.{FileRead, file-read, six}
 use Rattle.park.specs.ParkFile.{parkIn}
 use Rattle.park.specs.Reading.{unless, _then_, lengthAt, nodesIn, rootIn, linkCount, verdictOf, fileIn}
-use Rattle.park.proofs.RoundTrip.{FileRead, file-read, six}
-use Rattle.columns.specs.Columns.{column, little}
-use Rattle.apart.proofs.ApartLaws.{length-column, park-here, state-here}
-use Rattle.way.specs.declared.Way.{Way}
-use Rattle.way.specs.Way as way
-use Rattle.way.specs.Ends as ends
+use Rattle.park.specs.declared.answer.Verdict.the-variants.{Fine, Refused}
+use Rattle.refusals.specs.declared.Refusal.the-variants.{Node}
+use Rattle.refusals.specs.declared.Refusal.{Refusal}
+use Rattle.rule.specs.Round.{Cell, Park}
+use Rattle.slices.specs.Reading.{nodeAt}
+use Rattle.slices.specs.Slices.{cellsOf, parkOf}
 use Rattle.way.proofs.SlicesLaws.{way-in-park}
-use Rattle.asking.specs.declared.WayAnswer as answer
-use Rattle.asking.specs.Asking.{wayVerdict, wayAnswer}
+use Rattle.way.specs.Way as way
+use Rattle.way.specs.declared.Way.{Way}
+use Rattle.wire.specs.Big.{Bytes, big}
+use borrow.Author.Tests.{le-leb, lt-leb}
+use lib.ListN.{length}
+use mathlib.Core.List.{List}
+use mathlib.Core.Path.{_≡_, sym, ap, ap₂, _∙_}
+use native.Mathlib.Omega.{arith}
 
 module _ (s : List ℕ) (bytes : Bytes s) (fine : verdictOf s ≡ Fine) where
   abbrev l : ℕ
@@ -49,7 +49,7 @@ module _ (s : List ℕ) (bytes : Bytes s) (fine : verdictOf s ≡ Fine) where
   abbrev marks : List ℕ
   marks = column (big 1 s) (54 + 6 * l) 7 (nodesIn s)
 
-  way-here : (i : ℕ) → way.wayOf (rootIn s) (ends.endsOf lows highs) (nodeAt 0 parents) (ends.nodesIn parents) i ≡ way.parkWay (parkIn (fileIn s)) (fileIn s .state) i
+  way-here : (i : ℕ) → way.wayOf (rootIn s) (endsOf lows highs) (nodeAt 0 parents) (way.nodesIn parents) i ≡ way.parkWay (parkIn (fileIn s)) (fileIn s .state) i
   unfolding fileIn
   way-here i =
       let r : FileRead s = file-read s fine in
@@ -62,7 +62,7 @@ module _ (s : List ℕ) (bytes : Bytes s) (fine : verdictOf s ≡ Fine) where
 
   -- the way over slices that hold the columns
   pub way-apart : (i : ℕ) (ls hs ps : List ℕ) → ls ≡ lows → hs ≡ highs → ps ≡ column (big 2 s) (52 + lengthAt s 7) 7 (nodesIn s)
-      → way.wayOf (rootIn s) (ends.endsOf ls hs) (nodeAt 0 ps) (ends.nodesIn ps) i ≡ way.parkWay (parkIn (fileIn s)) (fileIn s .state) i
+      → way.wayOf (rootIn s) (endsOf ls hs) (nodeAt 0 ps) (way.nodesIn ps) i ≡ way.parkWay (parkIn (fileIn s)) (fileIn s .state) i
   way-apart i ls hs ps e f g =
       let p : ps ≡ parents = g ∙ ap (λ (k : ℕ). column (big 2 s) (52 + k) 7 (nodesIn s)) (sym (six s bytes (file-read s fine))) in
       rw (e, f, p) (way-here i)

@@ -17,7 +17,7 @@ use Rattle.park.proofs.ParkLaws.{read-park-ok}
 use Rattle.way.specs.declared.Outcome.the-variants.{Reached}
 use Rattle.way.specs.Way.{parkWay}
 use Rattle.way.proofs.WayLaws.{exact-reaches}
-use Rattle.asking.specs.declared.WayAnswer.the-variants.{Told}
+use Rattle.answers.specs.declared.WayAnswer.the-variants.{Told}
 use Rattle.asking.specs.Asking.{wayAnswer}
 use Rattle.asking.proofs.AskingLaws.{way-told}
 

@@ -1,15 +1,15 @@
 -- What Way answers for a file and a node, by document 01.
 use Prim.Native.Nat.{ℕ}
-use mathlib.Core.List.{List}
-use lib.Dec.{leb}
-use Rattle.park.specs.declared.refusal.Refusal.the-variants.{Node}
-use Rattle.park.specs.declared.answer.Verdict.{Verdict}
-use Rattle.park.specs.declared.answer.Verdict.the-variants.{Fine, Refused}
+use Rattle.answers.specs.declared.WayAnswer as answer
 use Rattle.park.specs.ParkFile.{parkIn}
 use Rattle.park.specs.Reading.{unless, _then_, nodesIn, verdictOf, fileIn}
-use Rattle.way.specs.declared.Way.{Way}
+use Rattle.park.specs.declared.answer.Verdict.the-variants.{Fine, Refused}
+use Rattle.park.specs.declared.answer.Verdict.{Verdict}
+use Rattle.refusals.specs.declared.Refusal.the-variants.{Node}
 use Rattle.way.specs.Way.{parkWay}
-use Rattle.asking.specs.declared.WayAnswer as answer
+use Rattle.way.specs.declared.Way.{Way}
+use lib.Dec.{leb}
+use mathlib.Core.List.{List}
 
 -- the refusals of the file, then 12: "node not in 1 to n"
 unfoldable pub wayVerdict : List ℕ → ℕ → Verdict

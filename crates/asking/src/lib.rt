@@ -1,7 +1,8 @@
 // Way: where following the stored parents of a park file leads from a node. The file is checked, the ends of its links and
 // its parents are taken apart into local arrays, and the way is followed there. Nothing is written.
+use answers::WayAnswer;
 use park::answer::Verdict;
-use park::refusal::Refusal;
+use refusals::Refusal;
 use way::Way;
 ghost use mathlib.Core.Path.{_≡_};
 ghost use Prim.Native.Nat.{ℕ, _<_};
@@ -12,19 +13,6 @@ ghost use Rattle.park.specs.ParkFile.{parkIn};
 ghost use Rattle.park.specs.Reading.{nodesIn, linkCount, verdictOf, fileIn};
 ghost use Rattle.way.specs.Way.{parkWay};
 ghost use Rattle.asking.specs.Asking.{wayAnswer};
-
-// The most links of a file.
-const LINKS: usize = 1024;
-
-// The most nodes of a file.
-const NODES: usize = 256;
-
-// What Way answers.
-pub enum WayAnswer {
-    // The node asked about, by its number, and where its way led.
-    Told(Way),
-    Refused(Refusal),
-}
 
 // The way of a node of a checked file, over slices of room for the lower ends, the higher ends and the parents, which are
 // node numbers.
@@ -46,9 +34,9 @@ fn way_in(file: &[u8], node: u16) -> Way
 {
     let nodes = wire::number_at(file, 3);
     let links = wire::number_at(file, 8) / 6;
-    let mut lows = [0u16; LINKS];
-    let mut highs = [0u16; LINKS];
-    let mut parents = [0u16; NODES];
+    let mut lows = [0u16; park::LINKS];
+    let mut highs = [0u16; park::LINKS];
+    let mut parents = [0u16; park::NODES];
     way_over(
         file,
         &mut lows[..links],
@@ -63,7 +51,7 @@ fn way_in(file: &[u8], node: u16) -> Way
 pub fn way_of_node(file: &[u8], node: u16) -> WayAnswer
     ensures { λ r. ⌜ r ≡ wayAnswer (now (file .entry)) node ⌝ }
 {
-    let found = checking::verdict(file);
+    let found = fields::verdict(file);
     if let Verdict::Refused(r) = found {
         return WayAnswer::Refused(r);
     }

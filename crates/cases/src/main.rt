@@ -1,6 +1,6 @@
 // Cases E and L of document 01, run and printed: E after 256 rounds and until it is quiet; F's file with one byte more, into
 // an area one byte short, and into one that is exactly long enough.
-use chandvreksh::ExactAnswer;
+use answers::ExactAnswer;
 use measure::Rounds;
 
 // Case E: n 3, root 1, link 2-3 cost 65,535, no member.
@@ -13,7 +13,7 @@ fn case_e() {
 
 // Writes the exact table of the file into the area, and prints what that comes to.
 fn show_exact(file: &[u8], area: &mut [u8]) {
-    let found = chandvreksh::exact_file(file, area, 0);
+    let found = exacting::exact_file(file, area, 0);
     match found {
         ExactAnswer::Refused(refusal) => settling::show_refusal(refusal),
         ExactAnswer::Done => settling::show(b"done\n"),

@@ -4,13 +4,13 @@ use Prim.Native.Nat.{ℕ}
 use mathlib.Core.Path.{_≡_, sym, ap, _∙_}
 use mathlib.Core.List.{List}
 use Rattle.wire.specs.Big.{Bytes}
-use Rattle.exacting.specs.declared.ExactAnswer.{ExactAnswer}
+use Rattle.answers.specs.declared.ExactAnswer.{ExactAnswer}
 use Rattle.exacting.specs.Exacting.{Exacted}
 use Rattle.exacting.proofs.ExactingLaws.{exact-one}
-use Rattle.judging.specs.declared.RightAnswer.{RightAnswer}
+use Rattle.answers.specs.declared.RightAnswer.{RightAnswer}
 use Rattle.judging.specs.Judging.{Judged}
 use Rattle.judging.proofs.JudgeLaws.{right-one}
-use Rattle.chandvreksh.specs.Values.{exactValues, rightValues}
+use Rattle.answers.specs.Values.{exactValues, rightValues}
 
 -- what `chandvreksh_exact` ensures of a file, an area and a place: `is` has the answer's numbers
 abbrev pub ExactAllows : List ℕ → List ℕ → ℕ → List ℕ → List ℕ → Type 0

@@ -15,23 +15,23 @@ ghost use Prim.Native.Nat.{ℕ};
 ghost use lib.ListN.{length};
 ghost use Rattle.park.specs.Reading.{checkOf};
 ghost use Rattle.making.specs.Making.{fileOf};
-ghost use Rattle.writing.specs.Area.{areaWith};
+ghost use Rattle.area.specs.Area.{areaWith};
 ghost use Rattle.writing.specs.Writing.{writeVerdict, writeOf};
 ghost use Rattle.running.specs.Running.{runAnswer, runVerdict, runFile};
-ghost use Rattle.exacting.specs.declared.ExactAnswer.{ExactAnswer};
+ghost use Rattle.answers.specs.declared.ExactAnswer.{ExactAnswer};
 ghost use Rattle.exacting.specs.Exacting.{Exacted};
-ghost use Rattle.judging.specs.declared.RightAnswer.{RightAnswer};
+ghost use Rattle.answers.specs.declared.RightAnswer.{RightAnswer};
 ghost use Rattle.judging.specs.Judging.{Judged};
 ghost use Rattle.asking.specs.Asking.{wayAnswer};
 ghost use Rattle.summing.specs.Summing.{summaryAnswer};
-ghost use Rattle.chandvreksh.specs.Values.{checkValues, runValues, exactValues, writeValues, rightValues, wayValues, summaryValues};
+ghost use Rattle.answers.specs.Values.{checkValues, runValues, exactValues, writeValues, rightValues, wayValues, summaryValues};
 
 // Check: nodes, links.
 #[no_mangle]
 pub extern "C" fn chandvreksh_check(file: &[u8], answer: &mut [u64; 8])
     ensures { λ _. ⌜ now (answer .exit) ≡ checkValues (checkOf (now (file .entry))) ⌝ }
 {
-    *answer = check_values(chandvreksh::check(file));
+    *answer = check_values(checking::check(file));
 }
 
 // Run: rounds done, and 1 if it is quiet. The count is in rounds, the place in bytes.
@@ -48,7 +48,7 @@ pub extern "C" fn chandvreksh_run(
         let old : List ℕ = now (area .entry) in
         ⌜ (now (answer .exit) ≡ runValues (runAnswer s count (length old) place)) × (now (area .exit) ≡ areaWith (runVerdict s count (length old) place) (runFile s count) place old) ⌝ }
 {
-    *answer = run_values(chandvreksh::run(file, Rounds(count), area, place));
+    *answer = run_values(running::run(file, Rounds(count), area, place));
 }
 
 // Exact: no values of its own. The place is in bytes.
@@ -62,7 +62,7 @@ pub extern "C" fn chandvreksh_exact(
     ensures { λ _.
         ⌜ ((found : ExactAnswer) × Exacted (now (file .entry)) (now (area .entry)) place found (now (area .exit)) × (now (answer .exit) ≡ exactValues found)) ⌝ }
 {
-    *answer = exact_values(chandvreksh::exact_file(file, area, place));
+    *answer = exact_values(exacting::exact_file(file, area, place));
 }
 
 // Write: `links` has three numbers a link (lower node, higher node, cost in cost units), distances are in cost units, and
@@ -85,7 +85,7 @@ pub extern "C" fn chandvreksh_write(
         let old : List ℕ = now (area .entry) in
         ⌜ (now (answer .exit) ≡ writeValues (writeOf file (length old) place)) × (now (area .exit) ≡ areaWith (writeVerdict file (length old) place) file place old) ⌝ }
 {
-    *answer = write_values(chandvreksh::write(
+    *answer = write_values(writing::write(
         nodes,
         root,
         links,
@@ -103,7 +103,7 @@ pub extern "C" fn chandvreksh_write(
 pub extern "C" fn chandvreksh_right(file: &[u8], answer: &mut [u64; 8])
     ensures { λ _. ⌜ ((found : RightAnswer) × Judged (now (file .entry)) found × (now (answer .exit) ≡ rightValues found)) ⌝ }
 {
-    *answer = right_values(chandvreksh::right(file));
+    *answer = right_values(judging::right(file));
 }
 
 // Way: the node asked about, 0 reached, 1 broken or 2 looping, and the hops or the node.
@@ -111,7 +111,7 @@ pub extern "C" fn chandvreksh_right(file: &[u8], answer: &mut [u64; 8])
 pub extern "C" fn chandvreksh_way(file: &[u8], node: u16, answer: &mut [u64; 8])
     ensures { λ _. ⌜ now (answer .exit) ≡ wayValues (wayAnswer (now (file .entry)) node) ⌝ }
 {
-    *answer = way_values(chandvreksh::way_of_node(file, node));
+    *answer = way_values(asking::way_of_node(file, node));
 }
 
 // Summary: members, marked nodes and served members, in nodes.
@@ -119,5 +119,5 @@ pub extern "C" fn chandvreksh_way(file: &[u8], node: u16, answer: &mut [u64; 8])
 pub extern "C" fn chandvreksh_summary(file: &[u8], answer: &mut [u64; 8])
     ensures { λ _. ⌜ now (answer .exit) ≡ summaryValues (summaryAnswer (now (file .entry))) ⌝ }
 {
-    *answer = summary_values(chandvreksh::summary(file));
+    *answer = summary_values(summing::summary(file));
 }

@@ -7,15 +7,15 @@ use mathlib.Core.List.{List, [], _∷_}
 use lib.ListN.{length}
 use lib.Dec.{T, leb, leb→le}
 use Rattle.wire.specs.Big.{Bytes, big, bytesOf}
-use Rattle.slices.specs.Group.{bitSet, memberIn}
+use Rattle.group.specs.Group.{bitSet, memberIn}
 use Rattle.rule.specs.Round.{through, least, giving, before, first, chosen, newDist, parentAt, asked, newMark, newCell, at, numbered, round, arcsOf, netOf}
 use Rattle.rule.proofs.Demand3 as demand3
 use Rattle.park.specs.declared.answer.Verdict.the-variants.{Fine}
 use Rattle.park.specs.ParkFile.{parkIn, field, linkBytes, stateBytes, encode, withState}
 use Rattle.park.specs.Reading.{unless, _then_, fieldAt, headIn, linkAt, linksFrom, linksIn, bitsClear, groupIn, stateIn, endIn, verdictOf, linksRead, cellsRead, fileIn, readPark, park}
 use Rattle.park.proofs.ParkLaws.{read-park-ok}
-use Rattle.writing.specs.Area.{areaWith}
-use Rattle.exacting.specs.declared.ExactAnswer.{ExactAnswer}
+use Rattle.area.specs.Area.{areaWith}
+use Rattle.answers.specs.declared.ExactAnswer.{ExactAnswer}
 use Rattle.exacting.specs.Exacting.{exactVerdict, Exacted}
 use Rattle.chandvreksh.specs.Cases.{fileF, zeros, exactF}
 

@@ -6,15 +6,15 @@ use mathlib.Core.List.{List}
 use lib.ListN.{length}
 use Rattle.park.specs.declared.answer.Checked.{Checked}
 use Rattle.park.specs.Reading.{checkOf}
-use Rattle.writing.specs.Area.{areaWith}
+use Rattle.area.specs.Area.{areaWith}
 use Rattle.writing.specs.Writing.{writeVerdict, writeOf}
-use Rattle.writing.specs.declared.Written.{Written}
+use Rattle.answers.specs.declared.Written.{Written}
 use Rattle.running.specs.Running.{runAnswer, runVerdict, runFile}
-use Rattle.running.specs.declared.RunAnswer.{RunAnswer}
+use Rattle.answers.specs.declared.RunAnswer.{RunAnswer}
 use Rattle.asking.specs.Asking.{wayAnswer}
-use Rattle.asking.specs.declared.WayAnswer.{WayAnswer}
+use Rattle.answers.specs.declared.WayAnswer.{WayAnswer}
 use Rattle.summing.specs.Summing.{summaryAnswer}
-use Rattle.summing.specs.declared.SummaryAnswer.{SummaryAnswer}
+use Rattle.answers.specs.declared.SummaryAnswer.{SummaryAnswer}
 
 -- two that are both what a definition says
 one : {A : Type 0} {x y said : A} → x ≡ said → y ≡ said → x ≡ y

@@ -8,11 +8,11 @@ use Rattle.rule.specs.Round.{Cell, Link}
 use Rattle.park.specs.ParkFile.{encode}
 use Rattle.park.specs.Reading.{checkOf}
 use Rattle.making.specs.Making.{fileOf}
-use Rattle.writing.specs.Area.{areaWith}
+use Rattle.area.specs.Area.{areaWith}
 use Rattle.writing.specs.Writing.{writeVerdict, writeOf}
 use Rattle.running.specs.Running.{runAnswer, runVerdict, runFile}
 use Rattle.asking.specs.Asking.{wayAnswer}
-use Rattle.chandvreksh.specs.Values.{values, checkValues, runValues, writeValues, wayValues}
+use Rattle.answers.specs.Values.{values, checkValues, runValues, writeValues, wayValues}
 
 -- a call and what it is given
 pub data Ask : Type 0 where

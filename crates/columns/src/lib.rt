@@ -30,7 +30,7 @@ pub fn column8(file: &[u8], from: usize, step: u8, out: &mut [u8])
     let mut at = from;
     let mut i = 0;
     while i < out.len() {
-        out[i] = wire::byte_at(file, at);
+        out[i] = lent::byte_at(file, at);
         at = next_place(file, at, step);
         i = i + 1;
     }
@@ -66,7 +66,7 @@ pub fn column32(file: &[u8], from: usize, step: u8, out: &mut [u32])
 fn byte64(file: &[u8], at: usize) -> u64
     ensures { λ r. ⌜ (r ≡ getD (now (file .entry)) at 0) × (r < 256) ⌝ }
 {
-    wire::byte_at(file, at) as u64
+    lent::byte_at(file, at) as u64
 }
 
 // The eight bytes from a place on as one word, the low byte first.

@@ -12,10 +12,11 @@ use Rattle.measure.specs.Measure.{ceiling}
 use Rattle.rule.specs.Round.{Link}
 use Rattle.rule.proofs.TableLaws.{length-numbered, getD-numbered}
 use Rattle.slices.specs.Slices.{linksOf, parkOf}
-use Rattle.slices.specs.Group.{memberIn}
+use Rattle.group.specs.Group.{memberIn}
 use Rattle.slices.specs.Reading.{nodeAt}
 use Rattle.tables.specs.Fit.{even}
-use Rattle.tables.proofs.FitLaws.{both-true, even-true}
+use Rattle.slices.proofs.TestLaws.{both-true}
+use Rattle.tables.proofs.FitLaws.{even-true}
 use Rattle.round.specs.Parent.{parentBy}
 use Rattle.slices.proofs.SliceLaws.{over, over-next, over-all}
 use Rattle.offering.specs.Offering.{distsFrom, searchable}

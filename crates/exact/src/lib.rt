@@ -3,7 +3,7 @@
 use marking::find_marks;
 use offering::find_dists;
 use round::parent::parent_by;
-use tables::lengths::both;
+use tables::both;
 ghost use mathlib.Core.Path.{_≡_};
 ghost use lib.ListN.{length};
 ghost use Rattle.slices.specs.Slices.{linksOf};

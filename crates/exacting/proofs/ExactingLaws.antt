@@ -1,34 +1,35 @@
 -- The table that is found is the exact one, and a park has no other, so that the area holds the file that Exact promises.
 use Prim.Native.Nat.{ℕ, _+_, _*_, _≤_}
-use mathlib.Core.Path.{_≡_, refl, sym, ap, subst, _∙_}
-use mathlib.Core.Bool.{Bool, true, cond}
-use mathlib.Core.List.{List, _++_}
-use native.Mathlib.Omega.{arith}
+use Rattle.answers.specs.declared.ExactAnswer.the-variants as answer
+use Rattle.answers.specs.declared.ExactAnswer.{ExactAnswer}
+use Rattle.apart.proofs.ApartLaws.{nodes-here}
+use Rattle.apart.proofs.LentLaws.{links-again, park-again}
+use Rattle.slices.proofs.PartLaws.{again}
+use Rattle.area.specs.Area.{roomFor, areaWith}
+use Rattle.columns.specs.Columns.{column, little}
+use Rattle.exact.proofs.FoundLaws.{found-exact}
+use Rattle.exact.specs.Found.{ready, foundDists, foundParents, foundMarks, Found}
+use Rattle.exacting.specs.Exacting.{exactVerdict, exactBy, Exacted}
+use Rattle.park.proofs.ParkLaws.{fine-ok}
+use Rattle.park.proofs.VerdictLaws.{then-fine}
+use Rattle.park.specs.ParkFile.{parkIn, stateBytes, encode, withState}
+use Rattle.park.specs.Reading.{verdictOf, fileIn, nodesIn, rootIn, linkCount, _then_}
+use Rattle.park.specs.declared.answer.Verdict.the-variants.{Fine, Refused}
+use Rattle.park.specs.declared.answer.Verdict.{Verdict}
+use Rattle.placing.proofs.PlacingLaws.{state-file}
+use Rattle.refusals.specs.declared.Refusal.{Refusal}
+use Rattle.rule.proofs.Demand3.{exists, unique}
+use Rattle.rule.specs.Exact.{Exact}
+use Rattle.rule.specs.Round.{Cell}
+use Rattle.slices.specs.Slices.{cellsOf}
+use Rattle.wire.specs.Big.{Bytes, big}
 use borrow.Author.Tests.{eq-eqb, le-leb}
 use lib.ListN.{length, take, drop}
 use lib.Seq.{sets}
-use Rattle.rule.specs.Round.{Cell}
-use Rattle.rule.specs.Exact.{Exact}
-use Rattle.rule.proofs.Demand3.{exists, unique}
-use Rattle.wire.specs.Big.{Bytes, big}
-use Rattle.slices.specs.Slices.{cellsOf}
-use Rattle.park.specs.declared.refusal.Refusal.{Refusal}
-use Rattle.park.specs.declared.answer.Verdict.{Verdict}
-use Rattle.park.specs.declared.answer.Verdict.the-variants.{Fine, Refused}
-use Rattle.park.specs.ParkFile.{parkIn, stateBytes, encode, withState}
-use Rattle.park.specs.Reading.{verdictOf, fileIn, nodesIn, rootIn, linkCount, _then_}
-use Rattle.park.proofs.VerdictLaws.{then-fine}
-use Rattle.park.proofs.ParkLaws.{fine-ok}
-use Rattle.columns.specs.Columns.{column, little}
-use Rattle.apart.proofs.ApartLaws.{nodes-here}
-use Rattle.apart.proofs.LentLaws.{again, links-again, park-again}
-use Rattle.writing.specs.Area.{roomFor, areaWith}
-use Rattle.placing.proofs.PlacingLaws.{state-file}
-use Rattle.exact.specs.Found.{ready, foundDists, foundParents, foundMarks, Found}
-use Rattle.exact.proofs.FoundLaws.{found-exact}
-use Rattle.exacting.specs.declared.ExactAnswer.{ExactAnswer}
-use Rattle.exacting.specs.declared.ExactAnswer.the-variants as answer
-use Rattle.exacting.specs.Exacting.{exactVerdict, exactBy, Exacted}
+use mathlib.Core.Bool.{Bool, true, cond}
+use mathlib.Core.List.{List, _++_}
+use mathlib.Core.Path.{_≡_, refl, sym, ap, subst, _∙_}
+use native.Mathlib.Omega.{arith}
 
 -- a file that is refused leaves the area as it was
 pub exact-refused : (s old : List ℕ) (place : ℕ) (v : Refusal) → verdictOf s ≡ Refused v → Exacted s old place (answer.Refused v) old

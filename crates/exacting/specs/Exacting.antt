@@ -1,18 +1,18 @@
 -- Exact of document 01: "the file with the exact table as its state, written the same way. Not obtained by rounds." It is stated by the
 -- exact table itself. Sizes and places are in bytes.
 use Prim.Native.Nat.{ℕ}
-use mathlib.Core.Path.{_≡_}
-use mathlib.Core.List.{List}
-use lib.ListN.{length}
-use Rattle.rule.specs.Round.{Cell}
-use Rattle.rule.specs.Exact.{Exact}
-use Rattle.park.specs.declared.refusal.Refusal.{Refusal}
-use Rattle.park.specs.declared.answer.Verdict.{Verdict}
-use Rattle.park.specs.declared.answer.Verdict.the-variants.{Fine, Refused}
+use Rattle.answers.specs.declared.ExactAnswer as answer
+use Rattle.area.specs.Area.{roomFor, areaWith}
 use Rattle.park.specs.ParkFile.{parkIn, encode, withState}
 use Rattle.park.specs.Reading.{verdictOf, fileIn, _then_}
-use Rattle.writing.specs.Area.{roomFor, areaWith}
-use Rattle.exacting.specs.declared.ExactAnswer as answer
+use Rattle.park.specs.declared.answer.Verdict.the-variants.{Fine, Refused}
+use Rattle.park.specs.declared.answer.Verdict.{Verdict}
+use Rattle.refusals.specs.declared.Refusal.{Refusal}
+use Rattle.rule.specs.Exact.{Exact}
+use Rattle.rule.specs.Round.{Cell}
+use lib.ListN.{length}
+use mathlib.Core.List.{List}
+use mathlib.Core.Path.{_≡_}
 
 -- "the file from its start, field by field ..; then 8, .. 9": the first refusal, for an area of so many bytes
 unfoldable pub exactVerdict : List ℕ → ℕ → ℕ → Verdict

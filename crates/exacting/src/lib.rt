@@ -1,7 +1,7 @@
 // Exact: the file of a park with the exact table as its state, in a lent area. The table is found nearest node first and
 // not by rounds. Nothing is written before every refusal is ruled out. Places are in bytes.
+use answers::ExactAnswer;
 use park::answer::Verdict;
-use park::refusal::Refusal;
 ghost use mathlib.Core.Path.{_≡_};
 ghost use Prim.Native.Nat.{ℕ, _≤_};
 ghost use mathlib.Core.List.{List};
@@ -12,15 +12,8 @@ ghost use Rattle.slices.specs.Slices.{cellsOf};
 ghost use Rattle.park.specs.declared.answer.Verdict.the-variants.{Fine};
 ghost use Rattle.park.specs.ParkFile.{ParkFile, parkIn, encode, withState};
 ghost use Rattle.park.specs.Reading.{verdictOf, fileIn, nodesIn, rootIn, linkCount};
-ghost use Rattle.writing.specs.Area.{roomFor, areaWith};
+ghost use Rattle.area.specs.Area.{roomFor, areaWith};
 ghost use Rattle.exacting.specs.Exacting.{Exacted};
-
-// What Exact answers.
-pub enum ExactAnswer {
-    // The file is in the area, as long as the one that was given.
-    Done,
-    Refused(Refusal),
-}
 
 // Takes a checked file apart and finds its exact table, in room of its own: the table is left in the three lent slices.
 fn find_apart(
@@ -37,9 +30,9 @@ fn find_apart(
     ensures { λ _. ⌜ Exact (parkIn (fileIn (now (file .entry)))) (cellsOf (now (dists .exit)) (now (parents .exit)) (now (marks .exit))) ⌝ }
 {
     let l = links as usize;
-    let mut lows = [0u16; 1024];
-    let mut highs = [0u16; 1024];
-    let mut costs = [0u16; 1024];
+    let mut lows = [0u16; park::LINKS];
+    let mut highs = [0u16; park::LINKS];
+    let mut costs = [0u16; park::LINKS];
     apart::take_links(file, &mut lows[..l], &mut highs[..l], &mut costs[..l]);
     let mut words = [0u64; 4];
     apart::take_group(file, links, &mut words);
@@ -64,11 +57,11 @@ fn put_exact(file: &[u8], area: &mut [u8], place: usize) -> Verdict
         ⌜ (r ≡ roomFor (length (now (file .entry))) (length old) place)
         × ((e : List Cell) → Exact (parkIn f) e → now (area .exit) ≡ areaWith r (encode (withState f e)) place old) ⌝ }
 {
-    let n = apart::nodes(file);
-    let links = apart::links(file);
-    let mut dists = [0u32; 256];
-    let mut parents = [0u16; 256];
-    let mut marks = [0u8; 256];
+    let n = wire::number_at(file, 3);
+    let links = wire::big16(file, 8) / 6;
+    let mut dists = [0u32; park::NODES];
+    let mut parents = [0u16; park::NODES];
+    let mut marks = [0u8; park::NODES];
     find_apart(
         file,
         wire::big16(file, 5),
@@ -92,7 +85,7 @@ fn put_exact(file: &[u8], area: &mut [u8], place: usize) -> Verdict
 pub fn exact_file(file: &[u8], area: &mut [u8], place: usize) -> ExactAnswer
     ensures { λ r. ⌜ Exacted (now (file .entry)) (now (area .entry)) place r (now (area .exit)) ⌝ }
 {
-    let found = checking::verdict(file);
+    let found = fields::verdict(file);
     if let Verdict::Refused(r) = found {
         return ExactAnswer::Refused(r);
     }

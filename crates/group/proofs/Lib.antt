@@ -1,2 +1,3 @@
+pub mod MemberLaws
 pub mod CountLaws
 pub mod WordLaws

@@ -12,7 +12,7 @@ use lib.Arith.{lt-one}
 use lib.Pow.{pow-pos, shr-lt, shr-shr}
 use lib.Count.{ones, ones-step}
 use Rattle.rule.specs.Round.{numbered}
-use Rattle.slices.specs.Group.{bitSet, memberIn}
+use Rattle.group.specs.Group.{bitSet, memberIn}
 use Rattle.group.specs.Count.{count, membersOf}
 use Rattle.group.proofs.CountLaws.{count-split, count-same, count-none}
 

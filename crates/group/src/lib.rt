@@ -1,12 +1,26 @@
-// The counts of a summary, over the group set as four 64-bit words and the stored marks as lent bytes: members, marked nodes
-// and served members, all in nodes.
-use slices::is_member;
+// The group set as 64-bit words, node 1 the lowest bit of the first: whether a node is a member, and how many members there
+// are, in nodes.
 ghost use mathlib.Core.Path.{_≡_};
 ghost use Prim.Native.Nat.{_≤_};
 ghost use lib.ListN.{getD};
 ghost use Rattle.rule.specs.Round.{numbered};
-ghost use Rattle.slices.specs.Group.{bitSet};
-ghost use Rattle.group.specs.Count.{count, membersOf, markedOf, servedOf};
+ghost use Rattle.group.specs.Group.{bitSet, memberIn};
+ghost use Rattle.group.specs.Count.{count, membersOf};
+
+// Whether `node` is in the group, by the group's words; 0 is no node.
+pub fn is_member(words: &[u64], node: usize) -> bool
+    ensures { λ r. ⌜ r ≡ memberIn 64 (now (words .entry)) node ⌝ }
+{
+    if node == 0 {
+        return false;
+    }
+    let bit = node - 1;
+    let at = bit / 64;
+    if words.len() <= at {
+        return false;
+    }
+    (words[at] >> (bit % 64)) % 2 == 1
+}
 
 // The set bits of the word at a place, counted with the language's count of ones; none past the end.
 pub(crate) fn bits_at(words: &[u64], place: usize) -> u32
@@ -25,37 +39,4 @@ pub fn members(words: &[u64]) -> u32
     let low = bits_at(words, 0) + bits_at(words, 1);
     let high = bits_at(words, 2) + bits_at(words, 3);
     low + high
-}
-
-// The nodes whose stored mark is set, in nodes; the marks are bytes, node 1's first.
-pub fn marked(marks: &[u8]) -> usize
-    ensures { λ r. ⌜ r ≡ markedOf (now (marks .entry)) ⌝ }
-{
-    let mut set: usize = 0;
-    let mut k = 0;
-    while k < marks.len() {
-        if marks[k] != 0 {
-            set += 1;
-        }
-        k += 1;
-    }
-    set
-}
-
-// The members whose stored mark is set, in nodes; the marks are bytes, node 1's first.
-pub fn served(words: &[u64], marks: &[u8]) -> usize
-    ensures { λ r. ⌜ r ≡ servedOf (now (words .entry)) (now (marks .entry)) ⌝ }
-{
-    let mut found: usize = 0;
-    let mut k = 0;
-    while k < marks.len() {
-        let mark = marks[k];
-        if mark != 0 {
-            if is_member(words, k + 1) {
-                found += 1;
-            }
-        }
-        k += 1;
-    }
-    found
 }

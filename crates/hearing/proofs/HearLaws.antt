@@ -1,30 +1,12 @@
--- When an arc takes the place of the one kept, when a neighbour asks, and what one link more says.
-use Prim.Native.Nat.{ℕ, _≤_, _<_}
-use native.Mathlib.Omega.{arith}
+-- When a neighbour asks, and what one link more says.
+use Prim.Native.Nat.{ℕ}
 use mathlib.Core.Path.{_≡_, sym, ap, _∙_}
-use mathlib.Core.Bool.{Bool, true, false, not, _||_, and-false, or-true, or-false}
+use mathlib.Core.Bool.{Bool, true, false, not, _||_, or-true, or-false}
 use lib.Dec.{eqb}
-use borrow.Author.Tests.{lt-ltb, le-ltb, eq-eqb, ne-eqb}
-use Rattle.measure.specs.Measure.{ceiling}
-use Rattle.rule.specs.Round.{Arc, Link, before}
-use Rattle.hearing.specs.declared.Best.{Best}
-use Rattle.hearing.specs.Hear.{takes, asks, withAsked, hear, passed}
-
-module _ (best : ℕ) (k : Arc) (x : ℕ) (a : Arc) where
-  pub takes-less : x < best → takes best k x a ≡ true
-  takes-less h = simp (lt-ltb x best h)
-
-  pub takes-more : best < x → takes best k x a ≡ false
-  takes-more h =
-      let y : best ≤ x = omega arith in
-      let z : x ≡ best → ⊥ = λ e. omega arith in
-      simp (le-ltb x best y, ne-eqb x best z)
-
-  pub takes-ceiling : best ≤ x → ceiling ≤ best → takes best k x a ≡ false
-  takes-ceiling h c = simp (le-ltb x best h, le-ltb best ceiling c, and-false)
-
-  pub takes-tie : x ≡ best → best < ceiling → takes best k x a ≡ not (before k a)
-  takes-tie e c = let y : best ≤ x = omega arith in simp (le-ltb x best y, eq-eqb x best e, lt-ltb best ceiling c)
+use borrow.Author.Tests.{eq-eqb, ne-eqb}
+use Rattle.rule.specs.Round.{Link}
+use Rattle.keeping.specs.declared.Best.{Best}
+use Rattle.hearing.specs.Hear.{asks, withAsked, hear, passed}
 
 pub asked-more : (b : Best) (q : Bool) → q ≡ true → record { dist = b .dist; from = b .from; cost = b .cost; asked = true } ≡ withAsked b q
 asked-more b q e = ap (λ (t : Bool). record { dist = b .dist; from = b .from; cost = b .cost; asked = t }) (sym (ap (λ (t : Bool). b .asked || t) e ∙ or-true (b .asked)))

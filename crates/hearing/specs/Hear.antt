@@ -1,28 +1,11 @@
--- What a node knows of the arcs that it has heard, and what one arc more, or one link more, changes.
+-- What one arc more, or one link more, changes in what a node knows of the arcs that it has heard.
 -- D, P and M are the stored distances (in cost units), parents and marks of before the round, each by node number.
 use Prim.Native.Nat.{ℕ}
-use mathlib.Core.Bool.{Bool, false, cond, not, _&&_, _||_}
-use lib.Dec.{ltb, eqb}
-use Rattle.measure.specs.Measure.{ceiling}
-use Rattle.rule.specs.Round.{Arc, Link, through, before}
-use Rattle.hearing.specs.declared.Best.{Best}
-
--- what a node knows before its first arc: "Without neighbours: distance 16,777,215, parent 0", and nobody asks
-abbrev pub unheard : Best
-unheard = record { dist = record { 0 = ceiling }; from = 0; cost = record { 0 = 0 }; asked = false }
-
--- the arc that is kept for the least offer so far
-abbrev pub keptArc : Best → Arc
-keptArc b = record { from = b .from; cost = b .cost .0 }
-
--- whether an arc a that offers x takes the place of the arc k that is kept for the offer `best`: it offers less, or the same, below the
--- ceiling, where k does not go before it
-abbrev pub takes : ℕ → Arc → ℕ → Arc → Bool
-takes best k x a = ltb x best || (eqb x best && (ltb best ceiling && not (before k a)))
-
--- what is kept once an arc has offered x
-abbrev pub kept : Best → ℕ → Arc → Best
-kept b x a = cond (takes (b .dist .0) (keptArc b) x a) (record { dist = record { 0 = x }; from = a .from; cost = record { 0 = a .cost }; asked = b .asked }) b
+use mathlib.Core.Bool.{Bool, cond, not, _&&_, _||_}
+use lib.Dec.{eqb}
+use Rattle.rule.specs.Round.{Arc, Link, through}
+use Rattle.keeping.specs.declared.Best.{Best}
+use Rattle.keeping.specs.Keep.{kept}
 
 -- whether "that neighbour's old parent is this node and its old mark is set"
 abbrev pub asks : (ℕ → ℕ) → (ℕ → ℕ) → ℕ → ℕ → Bool

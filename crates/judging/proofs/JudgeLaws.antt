@@ -1,33 +1,33 @@
 -- A round leaves the stored table alone exactly when it is exact, so that a run of no rounds decides what Right answers.
 use Prim.Native.Nat.{ℕ, _≤_}
-use mathlib.Core.Path.{_≡_, refl, sym, ap, _∙_}
-use mathlib.Core.Bool.{Bool, true, false, true≢false}
-use mathlib.Core.List.{List}
-use native.Mathlib.Omega.{arith}
-use lib.ListN.{length}
-use borrow.Author.Tests.{le-leb}
+use Rattle.allowing.specs.Allowing.{readyFor}
+use Rattle.answers.specs.declared.RightAnswer.the-variants.{Yes, No, Refused}
+use Rattle.answers.specs.declared.RightAnswer.{RightAnswer}
+use Rattle.answers.specs.declared.RunAnswer as answer
+use Rattle.area.specs.Area.{roomFor}
+use Rattle.judging.specs.Judging.{Judged}
 use Rattle.measure.specs.declared.Rounds.{Rounds}
-use Rattle.rule.specs.Round.{netOf}
-use Rattle.rule.specs.Exact.{Exact}
-use Rattle.rule.specs.Settles.{ParkOk}
-use Rattle.rule.proofs.Demand3 as demand3
-use Rattle.wire.specs.Big.{Bytes}
-use Rattle.park.specs.declared.refusal.Refusal.{Refusal}
-use Rattle.park.specs.declared.answer.Verdict.{Verdict}
-use Rattle.park.specs.declared.answer.Verdict.the-variants as verdict
-use Rattle.park.specs.ParkFile.{parkIn}
-use Rattle.park.specs.Reading.{unless, _then_, verdictOf, fileIn}
 use Rattle.park.proofs.ParkLaws.{fine-ok}
 use Rattle.park.proofs.RoundTrip.{file-read}
-use Rattle.writing.specs.Area.{roomFor}
-use Rattle.allowing.specs.Allowing.{readyFor}
-use Rattle.run.specs.Run.{quiet, runOf}
+use Rattle.park.specs.ParkFile.{parkIn}
+use Rattle.park.specs.Reading.{unless, _then_, verdictOf, fileIn}
+use Rattle.park.specs.declared.answer.Verdict.the-variants as verdict
+use Rattle.park.specs.declared.answer.Verdict.{Verdict}
+use Rattle.refusals.specs.declared.Refusal.{Refusal}
+use Rattle.rule.proofs.Demand3 as demand3
+use Rattle.rule.specs.Exact.{Exact}
+use Rattle.rule.specs.Round.{netOf}
+use Rattle.rule.specs.Settles.{ParkOk}
 use Rattle.run.proofs.RunLaws.{quiet-is}
-use Rattle.running.specs.declared.RunAnswer as answer
+use Rattle.run.specs.Run.{quiet, runOf}
 use Rattle.running.specs.Running.{outcomeOf, runVerdict, runAnswer}
-use Rattle.judging.specs.declared.RightAnswer.{RightAnswer}
-use Rattle.judging.specs.declared.RightAnswer.the-variants.{Yes, No, Refused}
-use Rattle.judging.specs.Judging.{Judged}
+use Rattle.wire.specs.Big.{Bytes}
+use borrow.Author.Tests.{le-leb}
+use lib.ListN.{length}
+use mathlib.Core.Bool.{Bool, true, false, true≢false}
+use mathlib.Core.List.{List}
+use mathlib.Core.Path.{_≡_, refl, sym, ap, _∙_}
+use native.Mathlib.Omega.{arith}
 
 -- whether a round leaves the stored table alone
 abbrev quietIn : List ℕ → Bool
@@ -128,8 +128,11 @@ by-quiet s k q e = go (verdictOf s) refl
         let z : _≡_ {A = ℕ} 0 1 = cc in
         absurd (omega arith)
 
-pub by-yes : (s : List ℕ) → Bytes s → (k : Rounds) (q : Bool) → answer.the-variants.Done k q ≡ runAnswer s 0 7984 0 → q ≡ true → Judged s Yes
-by-yes s b k q e t = let d = by-quiet s k q e in judged-yes s b (d .0) (d .1 ∙ t)
+-- the answer that a run's last word, quiet or not, is told as
+abbrev pub answerOf : Bool → RightAnswer
+answerOf true = Yes
+answerOf false = No
 
-pub by-no : (s : List ℕ) → Bytes s → (k : Rounds) (q : Bool) → answer.the-variants.Done k q ≡ runAnswer s 0 7984 0 → q ≡ false → Judged s No
-by-no s b k q e t = let d = by-quiet s k q e in judged-no s b (d .0) (d .1 ∙ t)
+pub by-run : (s : List ℕ) → Bytes s → (k : Rounds) (q t : Bool) → answer.the-variants.Done k q ≡ runAnswer s 0 7984 0 → q ≡ t → Judged s (answerOf t)
+by-run s b k q true e f = let d = by-quiet s k q e in judged-yes s b (d .0) (d .1 ∙ f)
+by-run s b k q false e f = let d = by-quiet s k q e in judged-no s b (d .0) (d .1 ∙ f)

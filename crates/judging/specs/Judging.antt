@@ -1,14 +1,14 @@
 -- Right of document 01, stated by the exact table and not by rounds.
 use Prim.Native.Nat.{ℕ}
-use mathlib.Core.Path.{_≡_}
-use mathlib.Core.List.{List}
-use Rattle.rule.specs.Exact.{Exact}
-use Rattle.park.specs.declared.refusal.Refusal.{Refusal}
-use Rattle.park.specs.declared.answer.Verdict.the-variants as verdict
+use Rattle.answers.specs.declared.RightAnswer.the-variants.{Yes, No, Refused}
+use Rattle.answers.specs.declared.RightAnswer.{RightAnswer}
 use Rattle.park.specs.ParkFile.{parkIn}
 use Rattle.park.specs.Reading.{verdictOf, fileIn}
-use Rattle.judging.specs.declared.RightAnswer.{RightAnswer}
-use Rattle.judging.specs.declared.RightAnswer.the-variants.{Yes, No, Refused}
+use Rattle.park.specs.declared.answer.Verdict.the-variants as verdict
+use Rattle.refusals.specs.declared.Refusal.{Refusal}
+use Rattle.rule.specs.Exact.{Exact}
+use mathlib.Core.List.{List}
+use mathlib.Core.Path.{_≡_}
 
 -- "yes exactly when the stored state is the exact table, value for value"; a file that Check refuses gets Check's refusal
 pub record Judged (s : List ℕ) (r : RightAnswer) : Type 0 where

@@ -1,25 +1,25 @@
 -- The file that a park's numbers make is the park's file, and numbers of a wrong count are refused as 3 where their field starts.
 use Prim.Native.Nat.{ℕ, _+_, _*_, _%_, _≤_, _<_}
-use mathlib.Core.Path.{_≡_, refl, ap, _∙_}
-use mathlib.Core.Bool.{true, false}
-use mathlib.Core.List.{List, [], _∷_, _++_, map, append-assoc, append-nil}
-use native.Mathlib.Nat.{mul-mod-right}
-use native.Mathlib.Omega.{arith}
-use lib.ListN.{length, length-append, length-map}
-use lib.Dec.{eqb, lit<}
-use borrow.Author.Tests.{le-leb, eq-eqb, eqb-true}
-use Rattle.rule.specs.Round.{Link, Cell}
-use Rattle.wire.specs.Big.{bytesOf}
-use Rattle.wire.proofs.BigLaws.{Has, has-all, has-left, length-bytesOf}
-use Rattle.park.specs.declared.refusal.Refusal.the-variants.{Length}
-use Rattle.park.specs.declared.answer.Verdict.the-variants.{Fine, Refused}
-use Rattle.park.specs.ParkFile.{ParkFile, ParkFileOk, field, linkBytes, stateBytes, encode}
-use Rattle.slices.specs.Slices.{cellsOf}
-use Rattle.park.specs.Reading.{_then_, lengthAt, nodesIn, headIn, linksIn, groupIn, stateIn, verdictOf, readPark, park}
+use Rattle.making.proofs.MakeLaws.{made-right, made-wrong, length-numbers, linksRight, links-few}
+use Rattle.making.specs.Making.{numbers, flat, stateRight, stateMade, groupMade, linksMade, fileOf}
 use Rattle.park.proofs.FieldLaws.{field-written, has-behind, length-refused}
 use Rattle.park.proofs.RoundTrip.{encode-read, head-few}
-use Rattle.making.specs.Making.{numbers, flat, stateRight, stateMade, groupMade, linksMade, fileOf}
-use Rattle.making.proofs.MakeLaws.{made-right, made-wrong, length-numbers, linksRight, links-few}
+use Rattle.park.specs.ParkFile.{ParkFile, ParkFileOk, field, linkBytes, stateBytes, encode}
+use Rattle.park.specs.Reading.{_then_, lengthAt, nodesIn, headIn, linksIn, groupIn, stateIn, verdictOf, readPark, park}
+use Rattle.park.specs.declared.answer.Verdict.the-variants.{Fine, Refused}
+use Rattle.refusals.specs.declared.Refusal.the-variants.{Length}
+use Rattle.rule.specs.Round.{Link, Cell}
+use Rattle.slices.specs.Slices.{cellsOf}
+use Rattle.wire.proofs.BigLaws.{Has, has-all, has-left, length-bytesOf}
+use Rattle.wire.specs.Big.{bytesOf}
+use borrow.Author.Tests.{le-leb, eq-eqb, eqb-true}
+use lib.Dec.{eqb, lit<}
+use lib.ListN.{length, length-append, length-map}
+use mathlib.Core.Bool.{true, false}
+use mathlib.Core.List.{List, [], _∷_, _++_, map, append-assoc, append-nil}
+use mathlib.Core.Path.{_≡_, refl, ap, _∙_}
+use native.Mathlib.Nat.{mul-mod-right}
+use native.Mathlib.Omega.{arith}
 
 numbers-flat : (ls : List Link) → numbers (flat ls) ≡ linkBytes ls
 unfolding numbers flat linkBytes

@@ -11,13 +11,14 @@ use lib.Seq.{sets, drop-cons}
 use lib.Dec.{leb, eqb}
 use borrow.Author.Tests.{leb-true, eq-eqb, eqb-true}
 use Rattle.wire.specs.Big.{bytesOf}
-use Rattle.wire.proofs.BigLaws.{sets-append, put-then, put-both, length-bytesOf}
+use Rattle.lent.proofs.StoreLaws.{sets-append, put-then, put-both}
+use Rattle.wire.proofs.BigLaws.{length-bytesOf}
 use Rattle.park.specs.ParkFile.{field, stateBytes}
 use Rattle.slices.specs.Slices.{cellsOf}
 use Rattle.park.proofs.FieldLaws.{length-field}
 use Rattle.park.proofs.RecordLaws.{length-stateBytes}
 use Rattle.park.proofs.StateLaws.{length-cellsOf}
-use Rattle.park.proofs.VerdictLaws.{and-true}
+use Rattle.slices.proofs.TestLaws.{both-true}
 use Rattle.making.specs.Making.{numbers, made, stateRight, stateMade, groupMade, linksMade, fileOf}
 
 -- one number of a run, and the rest
@@ -93,15 +94,15 @@ said-right false k size e w = absurd (w e)
 -- a state that is right has 7 bytes a node
 pub state-length : (n : ℕ) (ds ps ms : List ℕ) → stateRight n ds ps ms ≡ true → length (stateBytes (cellsOf ds ps ms)) ≡ 7 * n
 state-length n ds ps ms e =
-    let a = and-true (leb n 256) (eqb (length ds) n && (eqb (length ps) n && eqb (length ms) n)) e in
-    let b = and-true (eqb (length ds) n) (eqb (length ps) n && eqb (length ms) n) (a .1) in
-    let c = and-true (eqb (length ps) n) (eqb (length ms) n) (b .1) in
+    let a = both-true (leb n 256) (eqb (length ds) n && (eqb (length ps) n && eqb (length ms) n)) e in
+    let b = both-true (eqb (length ds) n) (eqb (length ps) n && eqb (length ms) n) (a .1) in
+    let c = both-true (eqb (length ps) n) (eqb (length ms) n) (b .1) in
     length-stateBytes (cellsOf ds ps ms)
     ∙ ap (λ (j : ℕ). 7 * j) (length-cellsOf ds ps ms n (eqb-true _ _ (b .0)) (eqb-true _ _ (c .0)) (eqb-true _ _ (c .1)))
 
 -- more than 256 nodes have no state that is right
 pub state-few : (n : ℕ) (ds ps ms : List ℕ) → stateRight n ds ps ms ≡ true → n ≤ 256
-state-few n ds ps ms e = leb-true _ _ (and-true (leb n 256) (eqb (length ds) n && (eqb (length ps) n && eqb (length ms) n)) e .0)
+state-few n ds ps ms e = leb-true _ _ (both-true (leb n 256) (eqb (length ds) n && (eqb (length ps) n && eqb (length ms) n)) e .0)
 
 module _ (l : List ℕ) (at n : ℕ) (ds ps ms : List ℕ) (size : ℕ) (said : size ≡ cond (stateRight n ds ps ms) (7 * n) 65535) where
   pub state-stop : {m : List ℕ} → size ≡ 65535 → m ≡ sets l at (4 ∷ bytesOf 2 size)
@@ -132,7 +133,7 @@ abbrev pub linksRight : List ℕ → Bool
 linksRight links = eqb (length links % 3) 0 && leb (length links) 3072
 
 pub links-few : (links : List ℕ) → linksRight links ≡ true → length links ≤ 3072
-links-few links e = leb-true _ _ (and-true (eqb (length links % 3) 0) (leb (length links) 3072) e .1)
+links-few links e = leb-true _ _ (both-true (eqb (length links % 3) 0) (leb (length links) 3072) e .1)
 
 module _ (l links rest : List ℕ) (size : ℕ) (said : size ≡ cond (linksRight links) (2 * length links) 65535) where
   pub links-stop : {m : List ℕ} → size ≡ 65535 → m ≡ sets l 7 (2 ∷ bytesOf 2 size)

@@ -29,7 +29,7 @@ fn put_head(out: &mut [u8], at: usize, tag: u8, size: u16)
     requires { ⌜ at ≤ 1048576 ⌝ }
     ensures { λ _. ⌜ now (out .exit) ≡ sets (now (out .entry)) at (tag ∷ bytesOf 2 size) ⌝ }
 {
-    wire::put_byte(out, at, tag);
+    lent::put_byte(out, at, tag);
     wire::put16(out, at + 1, size);
 }
 
@@ -112,7 +112,7 @@ fn make_group(
         return at + 3;
     }
     put_head(out, at, 3, 32);
-    wire::put_bytes(out, at + 3, group);
+    lent::put_bytes(out, at + 3, group);
     make_state(out, at + 35, nodes, dists, parents, marks)
 }
 

@@ -6,12 +6,11 @@ use native.Mathlib.Omega.{arith}
 use mathlib.Core.Path.{_≡_, sym, ap, ap₂, _∙_}
 use mathlib.Core.Bool.{Bool, true, false, cond}
 use mathlib.Core.List.{List}
-use lib.ListN.{length, set}
-use lib.Seq.{set-out}
+use lib.ListN.{length}
 use Rattle.slices.specs.Reading.{nodeAt}
-use Rattle.marking.specs.Flag.{withMark}
+use Rattle.flags.specs.Flag.{withMark}
 use Rattle.marking.specs.Walk.{walked, walkedFrom}
-use Rattle.marking.proofs.LoopLaws.{place, left-less, none-left}
+use Rattle.slices.proofs.PlaceLaws.{left-less, none-left}
 use Rattle.marking.proofs.WalkLaws.{walked-zero}
 
 -- what a test picks
@@ -20,22 +19,6 @@ pick-true b x y e = rw e
 
 pub pick-false : {A : Type 0} (b : Bool) (x y : A) → b ≡ false → y ≡ cond b x y
 pick-false b x y e = rw e
-
--- one mark set, by the tests on its way
-module _ (M : List ℕ) (i : ℕ) where
-  pub mark-zero : i ≡ 0 → M ≡ withMark M i
-  unfolding withMark
-  mark-zero e = rw e
-
-  mark-at : (i ≡ 0 → ⊥) → withMark M i ≡ set M (i - 1) 1
-  unfolding withMark
-  mark-at h = ap (withMark M) (place i h)
-
-  pub mark-in : (i ≡ 0 → ⊥) → set M (i - 1) 1 ≡ withMark M i
-  mark-in h = sym (mark-at h)
-
-  pub mark-out : (i ≡ 0 → ⊥) → length M ≤ i - 1 → M ≡ withMark M i
-  mark-out h l = sym (mark-at h ∙ set-out M (i - 1) 1 l)
 
 -- a turn of a walk, and its two ends
 module _ (Q M all : List ℕ) (left i : ℕ) (so-far : walked Q left M i ≡ all) where

@@ -7,33 +7,16 @@ use mathlib.Core.Logic.{_⊎_, inl, inr, ⊎-elim}
 use mathlib.Core.Bool.{Bool, true, false, cond}
 use mathlib.Core.List.{List}
 use lib.Dec.{T}
-use lib.ListN.{length, replicate, length-set, length-replicate}
-use lib.Seq.{getD-set-same, getD-set-other, set-out}
+use lib.ListN.{length, replicate, length-replicate}
+use lib.Seq.{set-out}
 use Rattle.rule.specs.Exact.{onward}
 use Rattle.rule.proofs.OfferLaws.{same?, below?}
 use Rattle.rule.proofs.Sound.{Within}
 use Rattle.rule.proofs.TableLaws.{within?}
 use Rattle.slices.specs.Reading.{nodeAt}
-use Rattle.marking.specs.Flag.{withMark}
+use Rattle.flags.specs.Flag.{withMark}
+use Rattle.flags.proofs.FlagLaws.{node-same, length-mark, mark-new, mark-old}
 use Rattle.marking.specs.Walk.{walked, walkedFrom, marksFrom}
-use Rattle.marking.proofs.LoopLaws.{node-same}
-
--- one mark set: that node's is 1, every other as it was
-pub length-mark : (M : List ℕ) (i : ℕ) → length (withMark M i) ≡ length M
-unfolding withMark
-length-mark M zero = refl
-length-mark M (suc k) = length-set M k 1
-
-pub mark-new : (M : List ℕ) (i : ℕ) → Within (length M) i → nodeAt 0 (withMark M i) i ≡ 1
-unfolding withMark
-mark-new M zero w = absurd (omega arith)
-mark-new M (suc k) w = getD-set-same M k 1 0 (omega arith)
-
-pub mark-old : (M : List ℕ) (i j : ℕ) → (j ≡ i → ⊥) → nodeAt 0 (withMark M i) j ≡ nodeAt 0 M j
-unfolding withMark
-mark-old M zero j n = refl
-mark-old M (suc k) zero n = refl
-mark-old M (suc k) (suc j) n = getD-set-other M k j 1 0 (λ e. n (ap suc e))
 
 -- a number that is no node has no mark to set
 beyond : (M : List ℕ) (i : ℕ) → (Within (length M) i → ⊥) → withMark M i ≡ M

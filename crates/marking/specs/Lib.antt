@@ -1,2 +1,1 @@
-pub mod Flag
 pub mod Walk

@@ -5,7 +5,7 @@ use mathlib.Core.Bool.{Bool, cond}
 use mathlib.Core.List.{List}
 use lib.ListN.{length, replicate}
 use Rattle.slices.specs.Reading.{nodeAt}
-use Rattle.marking.specs.Flag.{withMark}
+use Rattle.flags.specs.Flag.{withMark}
 
 -- the marks with those of node i and of the nodes that fewer than `left` hops by the parents Q lead to
 unfoldable pub walked : List ℕ → ℕ → List ℕ → ℕ → List ℕ

@@ -1,12 +1,12 @@
 // Exact marks: from each member the way by the parents is walked, and every node on it is marked. Marks are bytes, node 1's
 // first; 0 is clear.
-use slices::is_member;
+use flags::set_mark;
+use group::is_member;
 use slices::parent_at;
 ghost use mathlib.Core.Path.{_≡_};
 ghost use mathlib.Core.Bool.{cond};
 ghost use lib.ListN.{length, replicate};
-ghost use Rattle.slices.specs.Group.{memberIn};
-ghost use Rattle.marking.specs.Flag.{withMark};
+ghost use Rattle.group.specs.Group.{memberIn};
 ghost use Rattle.marking.specs.Walk.{walked, walkedFrom};
 
 // Clears every mark.
@@ -17,19 +17,6 @@ fn clear(marks: &mut [u8])
     while at < marks.len() {
         marks[at] = 0;
         at += 1;
-    }
-}
-
-// Sets the mark of node number `node` to 1. A number that is no node has none.
-pub fn set_mark(marks: &mut [u8], node: usize)
-    ensures { λ _. ⌜ now (marks .exit) ≡ withMark (now (marks .entry)) node ⌝ }
-{
-    if node == 0 {
-        return;
-    }
-    let at = node - 1;
-    if at < marks.len() {
-        marks[at] = 1;
     }
 }
 

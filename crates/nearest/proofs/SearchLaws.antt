@@ -9,7 +9,7 @@ use lib.Dec.{ltb}
 use lib.ListN.{length}
 use Rattle.measure.specs.Measure.{ceiling}
 use Rattle.slices.specs.Reading.{nodeAt}
-use Rattle.marking.proofs.LoopLaws.{left-less, none-left}
+use Rattle.slices.proofs.PlaceLaws.{left-less, none-left}
 use Rattle.nearest.specs.Nearest.{Work, closer, nearestFrom, nearest}
 
 -- which of two nodes is closer, by the tests

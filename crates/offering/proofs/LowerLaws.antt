@@ -105,11 +105,11 @@ module _ (u d : ℕ) where
       }
 
   offered-is : (l : Link) (D : List ℕ) → Offers u d (l ∷ []) D (offered u d D l)
-  unfolding offered
+  unfolding offered lowered
   offered-is l D = go (eqb (l .low) u) refl (eqb (l .high) u) refl
     where
       go : (s : Bool) → eqb (l .low) u ≡ s → (t : Bool) → eqb (l .high) u ≡ t
-          → Offers u d (l ∷ []) D (cond s (lowered D (l .high) (plus d (l .cost))) (cond t (lowered D (l .low) (plus d (l .cost))) D))
+          → Offers u d (l ∷ []) D (lowered D (cond s (l .high) (cond t (l .low) 0)) (plus d (l .cost)))
       go true a t b =
           let low : l .low ≡ u = eqb-true (l .low) u a in
           joined l D (l .high) (inl (low, refl)) (λ i f. ⊎-elim (λ q. sym (q .1)) (λ q. sym (q .1) ∙ low ∙ sym (q .0)) f)

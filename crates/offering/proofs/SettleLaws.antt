@@ -19,9 +19,8 @@ use Rattle.rule.proofs.CountLaws.{count, count-le, count-more}
 use Rattle.rule.proofs.DistanceLaws.{Certified}
 use Rattle.rule.proofs.NetLaws.{sound, arc-link, link-arc}
 use Rattle.slices.specs.Reading.{nodeAt}
-use Rattle.marking.specs.Flag.{withMark}
-use Rattle.marking.proofs.LoopLaws.{node-same}
-use Rattle.marking.proofs.WalkLaws.{length-mark, mark-new, mark-old}
+use Rattle.flags.specs.Flag.{withMark}
+use Rattle.flags.proofs.FlagLaws.{node-same, length-mark, mark-new, mark-old}
 use Rattle.nearest.specs.Nearest.{Work, nearest}
 use Rattle.offering.specs.Offering.{offeredAll, settleNode, settleNearest, settleNodes, unsettled, distsFrom}
 use Rattle.offering.proofs.LowerLaws.{Joins, Offers, offers, lowered-is}

@@ -19,10 +19,11 @@ use Rattle.slices.specs.Reading.{nodeAt, linkAt}
 use Rattle.slices.proofs.LinkLaws.{links-next, links-end}
 use Rattle.slices.proofs.SliceLaws.{over, over-next, over-all}
 use Rattle.tables.specs.Fit.{even}
-use Rattle.marking.specs.Flag.{withMark}
-use Rattle.marking.proofs.LoopLaws.{place, left-less, none-left}
+use Rattle.flags.specs.Flag.{withMark}
+use Rattle.slices.proofs.PlaceLaws.{place, left-less, none-left}
 use Rattle.nearest.specs.Nearest.{Work, nearest}
-use Rattle.offering.specs.Offering.{lowered, otherEnd, offered, offeredAll, settleNode, settleNearest, settleNodes, unsettled, distsFrom, searchable}
+use Rattle.neighbours.specs.Neighbours.{otherEnd}
+use Rattle.offering.specs.Offering.{lowered, offered, offeredAll, settleNode, settleNearest, settleNodes, unsettled, distsFrom, searchable}
 use Rattle.offering.proofs.LowerLaws.{lowered-is}
 
 -- an offer to one node, by the tests on its way
@@ -46,24 +47,13 @@ module _ (D : List ℕ) (v i : ℕ) where
     pub lower-kept : (x : ℕ) → x ≡ v → getD D (i - 1) 0 ≤ x → D ≡ lowered D i v
     lower-kept x e l = sym (lower-at ∙ ap (set D (i - 1)) (min-eq-left (le-trans l (le-of-eq e))) ∙ set-getD D (i - 1) 0)
 
--- one link's offer goes to the end that is not the node
-offer-other : (u d : ℕ) (D : List ℕ) (l : Link) → lowered D (otherEnd (l .low) (l .high) u) (plus d (l .cost)) ≡ offered u d D l
-unfolding offered lowered
-offer-other u d D l = go (eqb (l .low) u) (eqb (l .high) u)
-  where
-    go : (s t : Bool) → lowered D (cond s (l .high) (cond t (l .low) 0)) (plus d (l .cost))
-        ≡ cond s (lowered D (l .high) (plus d (l .cost))) (cond t (lowered D (l .low) (plus d (l .cost))) D)
-    go true t = refl
-    go false true = refl
-    go false false = refl
-
 -- a turn over the links, and their end
 module _ (u d : ℕ) (ls hs cs D all : List ℕ) (j : ℕ) (so-far : offeredAll u d D (drop j (linksOf ls hs cs)) ≡ all) where
   pub offer-next : (length hs ≡ length ls) × (length cs ≡ length ls) → j < length ls → (e : ℕ) → e ≡ otherEnd (getD ls j 0) (getD hs j 0) u
       → (E : List ℕ) → E ≡ lowered D e (plus d (getD cs j 0)) → offeredAll u d E (drop (j + 1) (linksOf ls hs cs)) ≡ all
-  unfolding offeredAll
+  unfolding offeredAll offered
   offer-next n h e p E q =
-      ap (λ (X : List ℕ). offeredAll u d X (drop (j + 1) (linksOf ls hs cs))) (q ∙ ap (λ (x : ℕ). lowered D x (plus d (getD cs j 0))) p ∙ offer-other u d D (linkAt ls hs cs j))
+      ap (λ (X : List ℕ). offeredAll u d X (drop (j + 1) (linksOf ls hs cs))) (q ∙ ap (λ (x : ℕ). lowered D x (plus d (getD cs j 0))) p)
       ∙ ap (λ (k : ℕ). offeredAll u d (offered u d D (linkAt ls hs cs j)) (drop k (linksOf ls hs cs))) (add-one j)
       ∙ sym (ap (offeredAll u d D) (links-next ls hs cs j h (omega arith) (omega arith)))
       ∙ so-far

@@ -2,15 +2,16 @@
 -- over each of its links; once for each node. That these are the exact distances is a theorem.
 -- Distances are in cost units, node 1's first.
 use Prim.Native.Nat.{ℕ, zero, suc, min}
-use mathlib.Core.Bool.{Bool, cond, _&&_}
+use mathlib.Core.Bool.{Bool, _&&_}
 use mathlib.Core.List.{List, [], _∷_}
 use lib.ListN.{getD, set, replicate}
-use lib.Dec.{leb, eqb}
+use lib.Dec.{leb}
 use Rattle.measure.specs.Measure.{ceiling, plus}
 use Rattle.rule.specs.Round.{Link}
 use Rattle.slices.specs.Reading.{nodeAt}
+use Rattle.neighbours.specs.Neighbours.{otherEnd}
 use Rattle.tables.specs.Fit.{even}
-use Rattle.marking.specs.Flag.{withMark}
+use Rattle.flags.specs.Flag.{withMark}
 use Rattle.nearest.specs.Nearest.{Work, nearest}
 
 -- the distances with node i's lowered to an offer that is less; a number that is no node has none
@@ -18,15 +19,9 @@ unfoldable pub lowered : List ℕ → ℕ → ℕ → List ℕ
 lowered D zero offer = D
 lowered D (suc k) offer = set D k (min (getD D k 0) offer)
 
--- the end of a link between these two that is not node u; 0 where u is none of them
-abbrev pub otherEnd : ℕ → ℕ → ℕ → ℕ
-otherEnd low high u = cond (eqb low u) high (cond (eqb high u) low 0)
-
 -- node u at distance d makes its offer over one link
 unfoldable pub offered : ℕ → ℕ → List ℕ → Link → List ℕ
-offered u d D l =
-    cond (eqb (l .low) u) (lowered D (l .high) (plus d (l .cost)))
-    (cond (eqb (l .high) u) (lowered D (l .low) (plus d (l .cost))) D)
+offered u d D l = lowered D (otherEnd (l .low) (l .high) u) (plus d (l .cost))
 
 -- and over all of them
 unfoldable pub offeredAll : ℕ → ℕ → List ℕ → List Link → List ℕ

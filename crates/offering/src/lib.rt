@@ -1,10 +1,10 @@
 // Exact distances: the nearest node that is not settled is settled, and offers its distance over its links, once for each node.
 // Distances and costs are in cost units.
-use marking::set_mark;
+use flags::set_mark;
 use measure::Cost;
 use nearest::nearest_node;
 use slices::dist_at;
-use tables::lengths::both;
+use tables::both;
 ghost use mathlib.Core.Path.{_≡_};
 ghost use mathlib.Core.Bool.{cond};
 ghost use lib.Dec.{eqb};
@@ -12,7 +12,8 @@ ghost use lib.ListN.{length, replicate};
 ghost use Rattle.measure.specs.Measure.{ceiling, plus};
 ghost use Rattle.slices.specs.Reading.{nodeAt};
 ghost use Rattle.slices.specs.Slices.{linksOf};
-ghost use Rattle.offering.specs.Offering.{lowered, otherEnd, offeredAll, settleNearest, settleNodes, distsFrom, searchable};
+ghost use Rattle.neighbours.specs.Neighbours.{otherEnd};
+ghost use Rattle.offering.specs.Offering.{lowered, offeredAll, settleNearest, settleNodes, distsFrom, searchable};
 
 // The end of a link that is not `node`; 0 where `node` is none of the two.
 fn other_end(low: u16, high: u16, node: usize) -> u16

@@ -1,19 +1,19 @@
 -- What Check answers and what reading gives: a file that is accepted is read as a park of the nodes and links that are answered.
 use Prim.Native.Nat.{ℕ, _+_, _*_, _≤_}
-use mathlib.Core.Path.{_≡_, refl, sym, ap, _∙_}
-use mathlib.Core.List.{List}
-use native.Mathlib.Omega.{arith}
-use lib.ListN.{length}
-use Rattle.wire.specs.Big.{Bytes}
-use Rattle.park.specs.declared.answer.Verdict.{Verdict}
-use Rattle.park.specs.declared.answer.Verdict.the-variants.{Fine, Refused}
-use Rattle.park.specs.declared.answer.Checked.{Checked}
-use Rattle.park.specs.declared.answer.Checked.the-variants.{Park, Refused as checkedRefused}
+use Rattle.park.proofs.RecordLaws.{length-links}
+use Rattle.park.proofs.RoundTrip.{length-encode, read-then-encode}
 use Rattle.park.specs.ParkFile.{ParkFile}
 use Rattle.park.specs.Reading.{refused, nodesIn, linkCount, verdictOf, fileIn, park, readPark, checkOf}
-use Rattle.park.proofs.RecordLaws.{length-links}
-use Rattle.park.specs.declared.refusal.Refusal.{Refusal}
-use Rattle.park.proofs.RoundTrip.{length-encode, read-then-encode}
+use Rattle.park.specs.declared.answer.Checked.the-variants.{Park, Refused as checkedRefused}
+use Rattle.park.specs.declared.answer.Checked.{Checked}
+use Rattle.park.specs.declared.answer.Verdict.the-variants.{Fine, Refused}
+use Rattle.park.specs.declared.answer.Verdict.{Verdict}
+use Rattle.refusals.specs.declared.Refusal.{Refusal}
+use Rattle.wire.specs.Big.{Bytes}
+use lib.ListN.{length}
+use mathlib.Core.List.{List}
+use mathlib.Core.Path.{_≡_, refl, sym, ap, _∙_}
+use native.Mathlib.Omega.{arith}
 
 -- a file that Check accepts is read as a park, of the nodes and the links that Check answers
 pub checked-park : (s : List ℕ) (n l : ℕ) → Bytes s → checkOf s ≡ Park n l

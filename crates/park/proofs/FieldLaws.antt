@@ -1,21 +1,21 @@
 -- A field that stands at a place is read there, and a field that is read is the bytes that stand there.
 use Prim.Native.Nat.{ℕ, suc, _+_, _%_, _≤_, _<_}
-use mathlib.Core.Path.{_≡_, refl, sym, ap, ap₂, _∙_}
-use mathlib.Core.Bool.{Bool, true, false}
-use mathlib.Core.List.{List, [], _∷_, _++_}
-use native.Mathlib.Nat.{add-zero}
-use native.Mathlib.Omega.{arith}
-use lib.ListN.{length, getD, take, drop, length-append, length-take, length-drop}
-use lib.Seq.{take-add, drop-drop, drop-cons}
-use lib.Dec.{leb, eqb, lit<}
-use borrow.Author.Tests.{le-leb, lt-leb, eq-eqb, leb-true, eqb-true}
-use Rattle.wire.specs.Big.{Bytes, big, bytesOf}
-use Rattle.wire.proofs.BigLaws.{Has, has-left, has-right, has-at, has-length, written-read, read-written, length-bytesOf}
-use Rattle.park.specs.declared.refusal.Refusal.the-variants.{Short, Length}
-use Rattle.park.specs.declared.answer.Verdict.the-variants.{Fine, Refused}
+use Rattle.park.proofs.VerdictLaws.{then-fine, unless-fine}
 use Rattle.park.specs.ParkFile.{field}
 use Rattle.park.specs.Reading.{unless, _then_, fieldAt, lengthAt}
-use Rattle.park.proofs.VerdictLaws.{then-fine, unless-fine}
+use Rattle.park.specs.declared.answer.Verdict.the-variants.{Fine, Refused}
+use Rattle.refusals.specs.declared.Refusal.the-variants.{Short, Length}
+use Rattle.wire.proofs.BigLaws.{Has, has-left, has-right, has-at, has-length, written-read, read-written, length-bytesOf}
+use Rattle.wire.specs.Big.{Bytes, big, bytesOf}
+use borrow.Author.Tests.{le-leb, lt-leb, eq-eqb, leb-true, eqb-true}
+use lib.Dec.{leb, eqb, lit<}
+use lib.ListN.{length, getD, take, drop, length-append, length-take, length-drop}
+use lib.Seq.{take-add, drop-drop, drop-cons}
+use mathlib.Core.Bool.{Bool, true, false}
+use mathlib.Core.List.{List, [], _∷_, _++_}
+use mathlib.Core.Path.{_≡_, refl, sym, ap, ap₂, _∙_}
+use native.Mathlib.Nat.{add-zero}
+use native.Mathlib.Omega.{arith}
 
 -- the k bytes from place i
 abbrev pub part : List ℕ → ℕ → ℕ → List ℕ

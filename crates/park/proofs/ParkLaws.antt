@@ -12,7 +12,7 @@ use lib.Pow.{pow-pos, pow-mono}
 use Rattle.rule.specs.Round.{Link}
 use Rattle.rule.specs.Settles.{ParkOk}
 use Rattle.wire.specs.Big.{Bytes}
-use Rattle.slices.specs.Group.{bitSet, memberIn}
+use Rattle.group.specs.Group.{bitSet, memberIn}
 use Rattle.park.specs.ParkFile.{ParkFile, ParkFileOk, parkIn, LinkOk, LinksOk, keyOf}
 use Rattle.park.specs.declared.answer.Verdict.the-variants.{Fine}
 use Rattle.park.specs.Reading.{lengthAt, nodesIn, verdictOf, fileIn, readPark, park}

@@ -16,7 +16,8 @@ use Rattle.wire.proofs.BigLaws.{Has, has-left, has-right, has-at, written-read,
 use Rattle.park.specs.declared.answer.Verdict.the-variants.{Fine}
 use Rattle.park.specs.ParkFile.{keyOf, linkBytes, stateBytes, LinkOk, LinksOk, CellsOk}
 use Rattle.park.specs.Reading.{unless, _then_, linkAt, linksFrom, keyAt, bitsClear, linksRead, cellsRead}
-use Rattle.park.proofs.VerdictLaws.{then-fine, unless-fine, and-true}
+use Rattle.slices.proofs.TestLaws.{both-true}
+use Rattle.park.proofs.VerdictLaws.{then-fine, unless-fine}
 use Rattle.park.proofs.FieldLaws.{part, part-join}
 
 pub length-linkBytes : (ls : List Link) → length (linkBytes ls) ≡ 6 * length ls
@@ -121,9 +122,9 @@ bits-written s at n (suc k) h =
 pub bits-read : (s : List ℕ) (at n left : ℕ) → bitsClear s at n left ≡ true → (i : ℕ) → i < left → getD s (at + i) 0 < 2 ^ min 8 (n - 8 * i)
 unfolding bitsClear
 bits-read s at n zero e i l = absurd (omega arith)
-bits-read s at n (suc k) e zero l = simp (add-zero, mul-zero, sub-zero) (ltb-true _ _ (and-true (ltb (getD s at 0) (2 ^ min 8 n)) (bitsClear s (at + 1) (n - 8) k) e .0))
+bits-read s at n (suc k) e zero l = simp (add-zero, mul-zero, sub-zero) (ltb-true _ _ (both-true (ltb (getD s at 0) (2 ^ min 8 n)) (bitsClear s (at + 1) (n - 8) k) e .0))
 bits-read s at n (suc k) e (suc i) l =
-    let ih = bits-read s (at + 1) (n - 8) k (and-true (ltb (getD s at 0) (2 ^ min 8 n)) (bitsClear s (at + 1) (n - 8) k) e .1) i (omega arith) in
+    let ih = bits-read s (at + 1) (n - 8) k (both-true (ltb (getD s at 0) (2 ^ min 8 n)) (bitsClear s (at + 1) (n - 8) k) e .1) i (omega arith) in
     rw (less-bytes n i, ← one-add i, ← add-assoc at 1 i) ih
 
 -- the numbers of a record that was read, and those behind it

@@ -1,12 +1,12 @@
 -- The laws of steps: where nothing is refused, every test held.
 use Prim.Native.Nat.{ℕ}
-use mathlib.Core.Path.{_≡_, refl}
-use mathlib.Core.Bool.{Bool, true, false, _&&_}
-use native.Mathlib.Omega.{arith}
-use Rattle.park.specs.declared.refusal.Refusal.{Refusal}
-use Rattle.park.specs.declared.answer.Verdict.{Verdict}
-use Rattle.park.specs.declared.answer.Verdict.the-variants.{Fine, Refused}
 use Rattle.park.specs.Reading.{unless, _then_}
+use Rattle.park.specs.declared.answer.Verdict.the-variants.{Fine, Refused}
+use Rattle.park.specs.declared.answer.Verdict.{Verdict}
+use Rattle.refusals.specs.declared.Refusal.{Refusal}
+use mathlib.Core.Bool.{Bool, true, false}
+use mathlib.Core.Path.{_≡_, refl}
+use native.Mathlib.Omega.{arith}
 
 -- nothing refused: no step refused
 pub then-fine : (v w : Verdict) → _then_ v w ≡ Fine → (v ≡ Fine) × (w ≡ Fine)
@@ -18,7 +18,3 @@ pub unless-fine : (b : Bool) (r : Refusal) → unless b r ≡ Fine → b ≡ tru
 unfolding unless
 unless-fine true r e = refl
 unless-fine false r e = let z : _≡_ {A = ℕ} 0 1 = cc in absurd (omega arith)
-
-pub and-true : (a b : Bool) → (a && b) ≡ true → (a ≡ true) × (b ≡ true)
-and-true true b e = (refl, e)
-and-true false b e = let z : _≡_ {A = ℕ} 0 1 = cc in absurd (omega arith)

@@ -5,7 +5,7 @@ use mathlib.Core.List.{List, [], _∷_, _++_}
 use lib.ListN.{length, getD}
 use Rattle.wire.specs.Big.{bytesOf}
 use Rattle.rule.specs.Round.{Link, Cell, Park}
-use Rattle.slices.specs.Group.{memberIn}
+use Rattle.group.specs.Group.{memberIn}
 
 -- "Nodes 1 to n. One node is the root. Links. The group. For each node a stored distance, parent and mark."
 pub record ParkFile : Type 0 where

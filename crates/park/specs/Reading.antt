@@ -1,18 +1,18 @@
 -- Reading a park file: document 01's table of fields and its refusals 1 to 8, with their exact conditions, places and order:
 -- "the file from its start, field by field: head complete, tag, length, body complete, contents; then 8". Places are in bytes.
 use Prim.Native.Nat.{ℕ, zero, suc, _+_, _*_, _-_, _/_, _%_, _^_, min}
+use Rattle.park.specs.ParkFile.{ParkFile}
+use Rattle.park.specs.declared.answer.Checked as checked
+use Rattle.park.specs.declared.answer.Verdict.the-variants.{Fine, Refused}
+use Rattle.park.specs.declared.answer.Verdict.{Verdict}
+use Rattle.refusals.specs.declared.Refusal.the-variants.{Short, Tag, Length, Bounds, Ends, Order, Bit, After}
+use Rattle.refusals.specs.declared.Refusal.{Refusal}
+use Rattle.rule.specs.Round.{Link, Cell}
+use Rattle.wire.specs.Big.{big}
+use lib.Dec.{leb, ltb, eqb}
+use lib.ListN.{length, getD, take, drop}
 use mathlib.Core.Bool.{Bool, true, false, _&&_}
 use mathlib.Core.List.{List, [], _∷_}
-use lib.ListN.{length, getD, take, drop}
-use lib.Dec.{leb, ltb, eqb}
-use Rattle.wire.specs.Big.{big}
-use Rattle.rule.specs.Round.{Link, Cell}
-use Rattle.park.specs.declared.refusal.Refusal.{Refusal}
-use Rattle.park.specs.declared.refusal.Refusal.the-variants.{Short, Tag, Length, Bounds, Ends, Order, Bit, After}
-use Rattle.park.specs.declared.answer.Verdict.{Verdict}
-use Rattle.park.specs.declared.answer.Verdict.the-variants.{Fine, Refused}
-use Rattle.park.specs.declared.answer.Checked as checked
-use Rattle.park.specs.ParkFile.{ParkFile}
 
 infixr 20 _then_
 -- a refusal, unless the test holds

@@ -1,5 +1,5 @@
 // What a step of reading finds, and what Check answers.
-use crate::refusal::Refusal;
+use refusals::Refusal;
 
 // What a step of reading finds: nothing to refuse, or a refusal.
 pub enum Verdict {

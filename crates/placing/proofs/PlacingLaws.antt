@@ -1,23 +1,23 @@
 -- A file that stands in an area is changed there as it would be changed alone; and a file that was read, with a new state, is the file of the
 -- park with that state.
 use Prim.Native.Nat.{ℕ, _+_, _*_, _-_, _≤_}
-use mathlib.Core.Path.{_≡_, refl, sym, ap, _∙_}
-use mathlib.Core.List.{List, _++_}
-use native.Mathlib.Omega.{arith}
+use Rattle.area.specs.Area.{roomFor, areaWith}
+use Rattle.park.proofs.RecordLaws.{length-links}
+use Rattle.park.proofs.StateLaws.{state-put}
+use Rattle.park.proofs.VerdictLaws.{then-fine, unless-fine}
+use Rattle.park.specs.ParkFile.{stateBytes, encode, withState}
+use Rattle.park.specs.Reading.{verdictOf, fileIn, nodesIn, linkCount, readPark, park}
+use Rattle.park.specs.declared.answer.Verdict.the-variants.{Fine, Refused}
+use Rattle.park.specs.declared.answer.Verdict.{Verdict}
+use Rattle.refusals.specs.declared.Refusal.{Refusal}
+use Rattle.rule.specs.Round.{Cell}
+use Rattle.wire.specs.Big.{Bytes}
 use borrow.Author.Tests.{leb-true}
 use lib.ListN.{length, take, drop}
 use lib.Seq.{sets, length-sets, length-take-le, take-at, drop-at}
-use Rattle.rule.specs.Round.{Cell}
-use Rattle.wire.specs.Big.{Bytes}
-use Rattle.park.specs.declared.refusal.Refusal.{Refusal}
-use Rattle.park.specs.declared.answer.Verdict.{Verdict}
-use Rattle.park.specs.declared.answer.Verdict.the-variants.{Fine, Refused}
-use Rattle.park.specs.ParkFile.{stateBytes, encode, withState}
-use Rattle.park.specs.Reading.{verdictOf, fileIn, nodesIn, linkCount, readPark, park}
-use Rattle.park.proofs.VerdictLaws.{then-fine, unless-fine}
-use Rattle.park.proofs.RecordLaws.{length-links}
-use Rattle.park.proofs.StateLaws.{state-put}
-use Rattle.writing.specs.Area.{roomFor, areaWith}
+use mathlib.Core.List.{List, _++_}
+use mathlib.Core.Path.{_≡_, refl, sym, ap, _∙_}
+use native.Mathlib.Omega.{arith}
 
 -- where there is room, the place and the file lie within the area
 pub room-fine : (size area place : ℕ) → roomFor size area place ≡ Fine → (place ≤ area) × (size ≤ area - place)

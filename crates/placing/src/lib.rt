@@ -8,7 +8,7 @@ ghost use lib.ListN.{length};
 ghost use lib.Seq.{sets};
 ghost use Rattle.park.specs.ParkFile.{stateBytes};
 ghost use Rattle.slices.specs.Slices.{cellsOf};
-ghost use Rattle.writing.specs.Area.{roomFor, areaWith};
+ghost use Rattle.area.specs.Area.{roomFor, areaWith};
 
 // Puts a file of as many links as are said into the lent area from a place on, with another state: distances (in cost
 // units), parents and marks, node 1 first. Or answers that there is no room for it; bytes before and after stay.
@@ -27,7 +27,7 @@ pub fn put_with_state(
         let new : List ℕ = sets bytes (48 + 6 * links) (stateBytes (cellsOf (now (dists .entry)) (now (parents .entry)) (now (marks .entry)))) in
         ⌜ (r ≡ roomFor (length bytes) (length old) place) × (now (area .exit) ≡ areaWith r new place old) ⌝ }
 {
-    let put = writing::put_file(file, area, place);
+    let put = area::put_file(file, area, place);
     if let Verdict::Refused(r) = put {
         return Verdict::Refused(r);
     }

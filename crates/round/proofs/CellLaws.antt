@@ -9,11 +9,11 @@ use borrow.Author.Tests.{eq-eqb, ne-eqb}
 use Rattle.measure.specs.Measure.{ceiling}
 use Rattle.rule.specs.Round.{Net, Cell, at, giving, chosen, asked, newDist, parentAt, newMark, newCell, arcsOf, netOf}
 use Rattle.rule.proofs.OnePassLaws.{kept-from}
-use Rattle.slices.specs.Group.{memberIn}
+use Rattle.group.specs.Group.{memberIn}
 use Rattle.slices.specs.Slices.{linksOf, cellsOf, parkOf}
-use Rattle.hearing.specs.declared.Best.{Best}
+use Rattle.keeping.specs.declared.Best.{Best}
 use Rattle.slices.specs.Reading.{nodeAt}
-use Rattle.hearing.specs.Hear.{unheard, keptArc}
+use Rattle.keeping.specs.Keep.{unheard, keptArc}
 use Rattle.round.specs.Scan.{passedAll}
 use Rattle.round.proofs.HeardLaws.{Heard, heard}
 use Rattle.slices.proofs.TableLaws.{Slices, slices, part-at}

@@ -11,10 +11,11 @@ use lib.Dec.{eqb}
 use Rattle.measure.specs.Measure.{ceiling}
 use Rattle.rule.specs.Round.{Arc, Link, through, before, asked, arcsOf}
 use Rattle.rule.proofs.OnePassLaws.{Kept, kept-none, kept-less, kept-equal, kept-more, kept-ceiling}
-use Rattle.hearing.specs.declared.Best.{Best}
-use Rattle.hearing.specs.Hear.{unheard, keptArc, takes, kept, asks, withAsked, hear, passed}
+use Rattle.keeping.specs.declared.Best.{Best}
+use Rattle.keeping.specs.Keep.{unheard, keptArc, takes, kept}
+use Rattle.hearing.specs.Hear.{asks, withAsked, hear, passed}
 use Rattle.round.specs.Scan.{passedAll}
-use Rattle.hearing.proofs.HearLaws.{takes-less, takes-more, takes-ceiling, takes-tie}
+use Rattle.keeping.proofs.KeepLaws.{takes-less, takes-more, takes-ceiling, takes-tie}
 
 -- what node i knows after the arcs xs
 pub record Heard (D P M : ℕ → ℕ) (i : ℕ) (xs : List Arc) (b : Best) : Type 0 where

@@ -10,8 +10,8 @@ use Rattle.measure.specs.Measure.{ceiling}
 use Rattle.rule.specs.Round.{Link, giving, chosen, newDist, parentAt, arcsOf}
 use Rattle.rule.proofs.OnePassLaws.{kept-from}
 use Rattle.rule.proofs.ParentLaws.{parent-none}
-use Rattle.hearing.specs.declared.Best.{Best}
-use Rattle.hearing.specs.Hear.{unheard, keptArc}
+use Rattle.keeping.specs.declared.Best.{Best}
+use Rattle.keeping.specs.Keep.{unheard, keptArc}
 use Rattle.round.specs.Scan.{passedAll}
 use Rattle.round.specs.Parent.{bareNet, parentBy}
 use Rattle.round.proofs.HeardLaws.{heard}

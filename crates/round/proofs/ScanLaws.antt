@@ -1,12 +1,10 @@
 -- One node's search, link by link, and its new mark.
-use Prim.Native.Nat.{ℕ, _+_, _-_, _^_, _≤_, _<_}
+use Prim.Native.Nat.{ℕ, _+_, _≤_, _<_}
 use native.Mathlib.Numerals.{add-one}
 use native.Mathlib.Omega.{arith}
-use mathlib.Core.Path.{_≡_, refl, sym, ap, _∙_, subst}
+use mathlib.Core.Path.{_≡_, refl, sym, ap, _∙_}
 use mathlib.Core.Bool.{Bool, true, false, cond, _||_, or-true, true≢false}
 use mathlib.Core.List.{List}
-use mir.Syntax.{w64}
-use mir.Val.{Fits}
 use lib.ListN.{length, drop}
 use lib.Dec.{eqb}
 use borrow.Author.Tests.{eqb-false}
@@ -14,21 +12,10 @@ use Rattle.rule.specs.Round.{Link}
 use Rattle.slices.specs.Slices.{linksOf}
 use Rattle.slices.specs.Reading.{linkAt}
 use Rattle.slices.proofs.LinkLaws.{links-end, links-next}
-use Rattle.hearing.specs.declared.Best.{Best}
+use Rattle.keeping.specs.declared.Best.{Best}
 use Rattle.hearing.specs.Hear.{passed}
 use Rattle.hearing.proofs.HearLaws.{passed-none}
 use Rattle.round.specs.Scan.{passedAll}
-
--- the place behind one of n places can be counted, and from there fewer are left
-pub place-next : (k n : ℕ) → k < n → n < 2 ^ 64 → Fits w64 (k + 1)
-place-next k n h r = record { fits = omega arith }
-
-pub fewer-left : (k n : ℕ) → k < n → n - (k + 1) < n - k
-fewer-left k n h = omega arith
-
--- a place of one slice is a place of another that is as long
-pub below : {k n m : ℕ} → m ≡ n → k < n → k < m
-below {k} e h = subst (λ (x : ℕ). k < x) (sym e) h
 
 -- the new mark, by the group and by whether a neighbour asks
 module _ (m q : Bool) where

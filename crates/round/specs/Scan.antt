@@ -3,7 +3,7 @@
 use Prim.Native.Nat.{ℕ}
 use mathlib.Core.List.{List, [], _∷_}
 use Rattle.rule.specs.Round.{Link, Cell}
-use Rattle.hearing.specs.declared.Best.{Best}
+use Rattle.keeping.specs.declared.Best.{Best}
 use Rattle.hearing.specs.Hear.{passed}
 use Rattle.round.specs.declared.node.Stored.{Stored}
 

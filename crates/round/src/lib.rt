@@ -5,7 +5,7 @@ mod node;
 pub mod parent;
 
 use node::new_cell;
-use tables::lengths::fitting;
+use tables::fitting;
 ghost use mathlib.Core.Path.{_≡_};
 ghost use Prim.Native.Nat.{_+_, _<_};
 ghost use lib.ListN.{length, set};

@@ -1,9 +1,9 @@
 // One node's turn: one search of the links for what its neighbours offer and ask, and from that the node's new cell.
 // The search reads a link's ends first, and goes on only where the node is one of them.
-use hearing::Best;
+use group::is_member;
 use hearing::hear_link;
+use keeping::Best;
 use measure::Cost;
-use slices::is_member;
 ghost use mathlib.Core.Path.{_≡_};
 ghost use mathlib.Core.Bool.{_||_, cond};
 ghost use lib.Dec.{eqb};
@@ -11,10 +11,10 @@ ghost use lib.ListN.{length};
 ghost use Rattle.measure.specs.Measure.{ceiling};
 ghost use Rattle.rule.specs.Round;
 ghost use Rattle.rule.specs.Round.{newCell, netOf};
-ghost use Rattle.slices.specs.Group.{memberIn};
+ghost use Rattle.group.specs.Group.{memberIn};
 ghost use Rattle.slices.specs.Slices.{linksOf, cellsOf, parkOf};
 ghost use Rattle.slices.specs.Reading.{nodeAt};
-ghost use Rattle.hearing.specs.Hear.{unheard};
+ghost use Rattle.keeping.specs.Keep.{unheard};
 ghost use Rattle.round.specs.Scan.{passedAll, cellOf};
 
 // What is stored for a node.

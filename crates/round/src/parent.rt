@@ -1,6 +1,6 @@
 // The parent that the rule gives a node by given distances.
 use crate::node::pass_links;
-use tables::lengths::both;
+use tables::both;
 ghost use mathlib.Core.Path.{_≡_};
 ghost use mathlib.Core.Bool.{cond};
 ghost use lib.ListN.{length};

@@ -1,2 +1,3 @@
+pub mod RoomLaws
 pub mod StepLaws
 pub mod RunLaws

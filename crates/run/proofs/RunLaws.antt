@@ -10,7 +10,7 @@ use mathlib.Core.Bool.{Bool, true, false, true≢false}
 use mathlib.Core.List.{List}
 use Rattle.rule.specs.Round.{Net, Cell, round, rounds}
 use Rattle.run.specs.Run.{quiet, Outcome, runOf}
-use Rattle.tables.proofs.SameLaws.{same-table}
+use Rattle.comparing.proofs.SameLaws.{same-table}
 
 -- quiet is "one more round would leave every stored value as it is"
 pub quiet-is : (N : Net) (n : ℕ) (t : List Cell) → (quiet N n t ≡ true) ↔ (round N n t ≡ t)

@@ -1,23 +1,27 @@
 -- One turn of a run over slices: what the round and the comparison of it say of the table that the slices hold, and how the run goes on.
-use Prim.Native.Nat.{ℕ, zero, suc, _+_, _-_}
+use Prim.Native.Nat.{ℕ, zero, suc, _+_, _-_, _≤_, _<_}
 use native.Mathlib.Numerals.{add-one}
 use native.Mathlib.Omega.{arith}
-use mathlib.Core.Path.{_≡_, refl, sym, ap, _∙_, subst}
+use mathlib.Core.Path.{_≡_, refl, sym, ap, _∙_}
 use mathlib.Core.Bool.{Bool, true, false, cond, _||_, or-true, true≢false}
-use mathlib.Core.List.{List}
-use lib.ListN.{length, length-map}
+use mathlib.Core.List.{List, _++_}
+use lib.ListN.{length, length-map, take, drop}
+use lib.Seq.{length-take-le}
 use lib.Dec.{eqb}
 use borrow.Author.Tests.{eqb-true, eq-eqb}
 use Rattle.rule.specs.Round.{Net, Cell, round, netOf}
 use Rattle.slices.specs.Slices.{cellsOf, parkOf}
-use Rattle.tables.specs.Fit.{fitting, fits, Together, Holds, Written}
-use Rattle.tables.proofs.FitLaws.{fit-true, SameLengths, written}
+use Rattle.slices.proofs.PartLaws.{room-again, again}
+use Rattle.tables.specs.Fit.{fits, Together, Holds, Written}
+use Rattle.tables.proofs.FitLaws.{true-fit, SameLengths}
 use Rattle.round.specs.Table.{roundOf}
 use Rattle.slices.specs.Slices.{distsOf, parentsOf, marksOf}
-use Rattle.tables.specs.Same.{sameSlices, sameTable}
-use Rattle.run.specs.Run.{quiet, Outcome, runOf, runFrom, nextAfter, ranOf}
+use Rattle.comparing.specs.Same.{sameSlices, sameTable}
+use Rattle.run.specs.declared.Ran.{Ran}
+use Rattle.run.specs.Run.{quiet, Outcome, runnable, runOf, runFrom, ranOf}
 use Rattle.slices.proofs.TableLaws.{cells-of, Slices, slices}
 use Rattle.round.proofs.RoundLaws.{round-length}
+use Rattle.run.proofs.RoomLaws.{room-true, with-room}
 
 -- slices that belong together hold what was written
 pub held : (fit : Bool) (t : List Cell) (ds ps ms ds′ ps′ ms′ : List ℕ) → fit ≡ true → Written fit t ds ps ms ds′ ps′ ms′ → Holds t ds′ ps′ ms′
@@ -33,7 +37,7 @@ table-of : (t : List Cell) (ds ps ms : List ℕ) → Holds t ds ps ms → cellsO
 table-of t ds ps ms h = (λ i. cellsOf (h .dists i) (h .parents i) (h .marks i)) ∙ cells-of t
 
 -- a comparison of slices is one of the tables that they hold
-pub same-held : (t : List Cell) (ds′ ps′ ms′ ds ps ms : List ℕ) → Holds t ds′ ps′ ms′ → (length ps ≡ length ds) × (length ms ≡ length ds)
+same-held : (t : List Cell) (ds′ ps′ ms′ ds ps ms : List ℕ) → Holds t ds′ ps′ ms′ → (length ps ≡ length ds) × (length ms ≡ length ds)
     → sameSlices ds′ ps′ ms′ ds ps ms ≡ sameTable t (cellsOf ds ps ms)
 same-held t ds′ ps′ ms′ ds ps ms h n =
     let s : Slices ds ps ms = slices ds ps ms (n .0) (n .1) in
@@ -86,8 +90,15 @@ run-from root left done ls hs cs ws ds ps ms ds′ ps′ ms′ h =
     λ i. runOf (netOf (parkOf (e i) root ls hs cs ws)) (e i) left done (q i)
 
 -- a turn that goes on has a round left
-pub some-left : (q : Bool) (left : ℕ) → (q || eqb left 0) ≡ false → left ≡ 0 → ⊥
+some-left : (q : Bool) (left : ℕ) → (q || eqb left 0) ≡ false → left ≡ 0 → ⊥
 some-left q left e k = true≢false (sym (or-true q) ∙ ap (λ (b : Bool). q || b) (sym (eq-eqb left 0 k)) ∙ e)
+
+module _ (q : Bool) (left : ℕ) (e : (q || eqb left 0) ≡ false) where
+  pub one-left : 1 ≤ left
+  one-left = omega (arith, some-left q left e)
+
+  pub one-less : left - 1 < left
+  one-less = omega (arith, some-left q left e)
 
 -- where a run stands whose slices were ds₀ ps₀ ms₀ and now hold another table: the rounds left and done make up the count, and what it comes to
 -- is what the run from here comes to
@@ -114,10 +125,6 @@ module _ (root : ℕ) (ls hs cs ws ds₀ ps₀ ms₀ ds ps ms : List ℕ) (count
         let h : Slices ds ps ms = slices ds ps ms (n .0) (n .1) in
         rw outcome (record { dists = sym (h .dists); parents = sym (h .parents); marks = sym (h .marks) })
 
-    pub ended-next : (ds′ ps′ ms′ : List ℕ) → Holds (roundOf root ls hs cs ws ds ps ms) ds′ ps′ ms′ → Holds (nextAfter count root ls hs cs ws ds₀ ps₀ ms₀) ds′ ps′ ms′
-    ended-next ds′ ps′ ms′ h =
-        rw outcome (subst (λ (n : ℕ). Holds (round (netOf (parkOf n root ls hs cs ws)) n (cellsOf ds ps ms)) ds′ ps′ ms′) (s .nodes) h)
-
   -- a turn that goes on, with the round of the table in its place
   pub goes-on : (q || eqb left 0) ≡ false → (ds′ ps′ ms′ : List ℕ) → Holds (roundOf root ls hs cs ws ds ps ms) ds′ ps′ ms′
       → Running root ls hs cs ws ds₀ ps₀ ms₀ ds′ ps′ ms′ count (left - 1) (done + 1)
@@ -130,96 +137,94 @@ module _ (root : ℕ) (ls hs cs ws ds₀ ps₀ ms₀ ds ps ms : List ℕ) (count
             ∙ s .run;
       }
 
--- where a run over any slices stands: those that belong together are running, and others are as they were
-pub record Going (root : ℕ) (ls hs cs ws ds₀ ps₀ ms₀ nd₀ np₀ nm₀ ds ps ms nd np nm : List ℕ) (count left done : ℕ) : Type 0 where
+-- where the turns of a run stand: the table is as long as it was, the arrays nd np nm have room for the next one, and the run goes on from here
+pub record Going (root : ℕ) (ls hs cs ws ds₀ ps₀ ms₀ ds ps ms nd np nm : List ℕ) (count left done : ℕ) : Type 0 where
   pub table : SameLengths ds₀ ps₀ ms₀ ds ps ms
-  pub next : SameLengths nd₀ np₀ nm₀ nd np nm
-  pub running : fits ls hs cs ds₀ ps₀ ms₀ nd₀ np₀ nm₀ ≡ true → Running root ls hs cs ws ds₀ ps₀ ms₀ ds ps ms count left done
-  pub still : fits ls hs cs ds₀ ps₀ ms₀ nd₀ np₀ nm₀ ≡ false → (ds ≡ ds₀) × (ps ≡ ps₀) × (ms ≡ ms₀) × (nd ≡ nd₀) × (np ≡ np₀) × (nm ≡ nm₀)
+  pub room : (length ds₀ ≤ length nd) × (length ds₀ ≤ length np) × (length ds₀ ≤ length nm)
+  pub running : Running root ls hs cs ws ds₀ ps₀ ms₀ ds ps ms count left done
 
-pub starts : (root : ℕ) (ls hs cs ws ds ps ms nd np nm : List ℕ) (count : ℕ) → Going root ls hs cs ws ds ps ms nd np nm ds ps ms nd np nm count count 0
-starts root ls hs cs ws ds ps ms nd np nm count =
-    record {
-      table = record { dists = refl; parents = refl; marks = refl };
-      next = record { dists = refl; parents = refl; marks = refl };
-      running = λ e. record { nodes = refl; counts = omega arith; run = refl };
-      still = λ e. (refl, refl, refl, refl, refl, refl);
-    }
+pub starts : (root : ℕ) (ls hs cs ws ds ps ms nd np nm : List ℕ) (count : ℕ) → (length ds ≤ length nd) × (length ds ≤ length np) × (length ds ≤ length nm)
+    → Going root ls hs cs ws ds ps ms ds ps ms nd np nm count count 0
+starts root ls hs cs ws ds ps ms nd np nm count room =
+    record { table = record { dists = refl; parents = refl; marks = refl }; room = room; running = record { nodes = refl; counts = omega arith; run = refl } }
 
-module _ {root : ℕ} {ls hs cs ws ds₀ ps₀ ms₀ nd₀ np₀ nm₀ ds ps ms nd np nm : List ℕ} {count left done : ℕ}
-    (s : Going root ls hs cs ws ds₀ ps₀ ms₀ nd₀ np₀ nm₀ ds ps ms nd np nm count left done) where
+module _ {root : ℕ} {ls hs cs ws ds₀ ps₀ ms₀ ds ps ms nd np nm : List ℕ} {count left done : ℕ} (s : Going root ls hs cs ws ds₀ ps₀ ms₀ ds ps ms nd np nm count left done)
+    (fit : runnable (length ls) (length hs) (length cs) (length ds₀) (length ps₀) (length ms₀) ≡ true) where
+  abbrev n : ℕ
+  n = length ds₀
+
   abbrev fit₀ : Bool
-  fit₀ = fits ls hs cs ds₀ ps₀ ms₀ nd₀ np₀ nm₀
-
-  abbrev fit : Bool
-  fit = fits ls hs cs ds ps ms nd np nm
+  fit₀ = runnable (length ls) (length hs) (length cs) (length ds₀) (length ps₀) (length ms₀)
 
   abbrev comes : Outcome
   comes = runFrom count 0 root ls hs cs ws ds₀ ps₀ ms₀
 
-  abbrev after : List Cell
-  after = nextAfter count root ls hs cs ws ds₀ ps₀ ms₀
+  -- the first n of the arrays belong together with the table
+  together : Together ls hs cs ds ps ms (take n nd) (take n np) (take n nm)
+  together =
+      let lengths = room-true ls hs cs ds₀ ps₀ ms₀ fit in
+      let nodes = sym (s .table .dists) in
+      record {
+        links = lengths .0;
+        table = (s .table .parents ∙ lengths .1 .0 ∙ nodes, s .table .marks ∙ lengths .1 .1 ∙ nodes);
+        second = (length-take-le n nd (s .room .0) ∙ nodes, length-take-le n np (s .room .1) ∙ nodes, length-take-le n nm (s .room .2) ∙ nodes);
+      }
 
-  -- the lengths stay, and with them whether the slices belong together
-  fit-same : fit ≡ fit₀
-  fit-same =
-      λ i. fitting (length ls) (length hs) (length cs) (s .table .dists i) (s .table .parents i) (s .table .marks i) (s .next .dists i) (s .next .parents i) (s .next .marks i)
+  -- a turn: xd xp xm came back from its round, in the place of the first n of the arrays
+  module _ (xd xp xm : List ℕ) (kept : (length xd ≡ length (take n nd)) × (length xp ≡ length (take n np)) × (length xm ≡ length (take n nm))) where
+    abbrev nd′ : List ℕ
+    nd′ = take n (xd ++ drop n nd)
 
-  -- a turn whose round was not done, and one whose round was
-  module _ {nd′ np′ nm′ : List ℕ} (w : Written fit (roundOf root ls hs cs ws ds ps ms) nd np nm nd′ np′ nm′) where
-    pub stopped : fit ≡ false
-        → (record { fit = false; rounds = record { 0 = 0 }; quiet = false } ≡ ranOf fit₀ comes)
-        × Written fit₀ (comes .table) ds₀ ps₀ ms₀ ds ps ms × Written fit₀ after nd₀ np₀ nm₀ nd′ np′ nm′
-    stopped e =
-        let z : fit₀ ≡ false = sym fit-same ∙ e in
-        let k = s .still z in (
-          ap (λ (b : Bool). ranOf b comes) (sym z),
-          rw z (record { dists = k .0; parents = k .1; marks = k .2 }),
-          rw z
-              (record {
-                dists = w .dists ∙ ap (λ (b : Bool). cond b (distsOf (roundOf root ls hs cs ws ds ps ms)) nd) e ∙ k .3;
-                parents = w .parents ∙ ap (λ (b : Bool). cond b (parentsOf (roundOf root ls hs cs ws ds ps ms)) np) e ∙ k .4;
-                marks = w .marks ∙ ap (λ (b : Bool). cond b (marksOf (roundOf root ls hs cs ws ds ps ms)) nm) e ∙ k .5;
-              }),
+    abbrev np′ : List ℕ
+    np′ = take n (xp ++ drop n np)
+
+    abbrev nm′ : List ℕ
+    nm′ = take n (xm ++ drop n nm)
+
+    pub next-room : (n ≤ length (xd ++ drop n nd)) × (n ≤ length (xp ++ drop n np)) × (n ≤ length (xm ++ drop n nm))
+    next-room = (room-again n xd nd (kept .0) (s .room .0), room-again n xp np (kept .1) (s .room .1), room-again n xm nm (kept .2) (s .room .2))
+
+    pub next-lengths : (length nd′ ≡ length ds) × (length np′ ≡ length ps) × (length nm′ ≡ length ms)
+    next-lengths =
+        let same = together in (
+          length-take-le n (xd ++ drop n nd) (next-room .0) ∙ sym (s .table .dists),
+          length-take-le n (xp ++ drop n np) (next-room .1) ∙ sym (s .table .dists) ∙ sym (same .table .0),
+          length-take-le n (xm ++ drop n nm) (next-room .2) ∙ sym (s .table .dists) ∙ sym (same .table .1),
         )
 
-    module _ (e : fit ≡ true) where
-      z : fit₀ ≡ true
-      z = sym fit-same ∙ e
+    module _ (w : Written (fits ls hs cs ds ps ms (take n nd) (take n np) (take n nm)) (roundOf root ls hs cs ws ds ps ms) (take n nd) (take n np) (take n nm) xd xp xm)
+        {q : Bool} (told : q ≡ sameSlices nd′ np′ nm′ ds ps ms) where
+      next : Holds (roundOf root ls hs cs ws ds ps ms) nd′ np′ nm′
+      next =
+          let h = held _ (roundOf root ls hs cs ws ds ps ms) (take n nd) (take n np) (take n nm) xd xp xm (true-fit ls hs cs ds ps ms (take n nd) (take n np) (take n nm) together) w in
+          record {
+            dists = again n xd nd (kept .0) (s .room .0) ∙ h .dists;
+            parents = again n xp np (kept .1) (s .room .1) ∙ h .parents;
+            marks = again n xm nm (kept .2) (s .room .2) ∙ h .marks;
+          }
 
-      pub together : Together ls hs cs ds ps ms nd np nm
-      together = fit-true ls hs cs ds ps ms nd np nm e
+      is-quiet : q ≡ quiet (netOf (parkOf (length ds) root ls hs cs ws)) (length ds) (cellsOf ds ps ms)
+      unfolding quiet
+      is-quiet = told ∙ same-held (roundOf root ls hs cs ws ds ps ms) nd′ np′ nm′ ds ps ms next (together .table)
 
-      pub counted : left + done ≡ count
-      counted = s .running z .counts
+      -- it ends the run
+      pub ran : {r : Ran} → (q || eqb left 0) ≡ true → r ≡ record { fit = true; rounds = record { 0 = done }; quiet = q }
+          → (r ≡ ranOf fit₀ comes) × Written fit₀ (comes .table) ds₀ ps₀ ms₀ ds ps ms
+      ran {r} t e =
+          with-room fit₀ comes ds₀ ps₀ ms₀ r ds ps ms fit (e ∙ ended root ls hs cs ws ds₀ ps₀ ms₀ ds ps ms count left done (s .running) q is-quiet t)
+          (ended-table root ls hs cs ws ds₀ ps₀ ms₀ ds ps ms count left done (s .running) q is-quiet t (together .table))
 
-      h : Holds (roundOf root ls hs cs ws ds ps ms) nd′ np′ nm′
-      h = held fit (roundOf root ls hs cs ws ds ps ms) nd np nm nd′ np′ nm′ e w
-
-      module _ {q : Bool} (eq : q ≡ sameSlices nd′ np′ nm′ ds ps ms) where
-        is-quiet : q ≡ quiet (netOf (parkOf (length ds) root ls hs cs ws)) (length ds) (cellsOf ds ps ms)
-        unfolding quiet
-        is-quiet = eq ∙ same-held (roundOf root ls hs cs ws ds ps ms) nd′ np′ nm′ ds ps ms h (together .table)
-
-        pub ran : (q || eqb left 0) ≡ true
-            → (record { fit = true; rounds = record { 0 = done }; quiet = q } ≡ ranOf fit₀ comes)
-            × Written fit₀ (comes .table) ds₀ ps₀ ms₀ ds ps ms × Written fit₀ after nd₀ np₀ nm₀ nd′ np′ nm′
-        ran t =
-            let r = s .running z in (
-              ended root ls hs cs ws ds₀ ps₀ ms₀ ds ps ms count left done r q is-quiet t ∙ ap (λ (b : Bool). ranOf b comes) (sym z),
-              written fit₀ (comes .table) ds₀ ps₀ ms₀ ds ps ms z (ended-table root ls hs cs ws ds₀ ps₀ ms₀ ds ps ms count left done r q is-quiet t (together .table)),
-              written fit₀ after nd₀ np₀ nm₀ nd′ np′ nm′ z (ended-next root ls hs cs ws ds₀ ps₀ ms₀ ds ps ms count left done r q is-quiet t nd′ np′ nm′ h),
-            )
-
-        -- the round was copied into the table
-        pub goes : (q || eqb left 0) ≡ false → {ds′ ps′ ms′ : List ℕ} → (ds′ ≡ nd′) × (ps′ ≡ np′) × (ms′ ≡ nm′)
-            → SameLengths ds ps ms ds′ ps′ ms′ → SameLengths nd np nm nd′ np′ nm′
-            → Going root ls hs cs ws ds₀ ps₀ ms₀ nd₀ np₀ nm₀ ds′ ps′ ms′ nd′ np′ nm′ count (left - 1) (done + 1)
-        goes t {ds′} {ps′} {ms′} copied a b =
-            record {
-              table = record { dists = a .dists ∙ s .table .dists; parents = a .parents ∙ s .table .parents; marks = a .marks ∙ s .table .marks };
-              next = record { dists = b .dists ∙ s .next .dists; parents = b .parents ∙ s .next .parents; marks = b .marks ∙ s .next .marks };
-              running = λ _. goes-on root ls hs cs ws ds₀ ps₀ ms₀ ds ps ms count left done (s .running z) q is-quiet t ds′ ps′ ms′
-                  (record { dists = copied .0 ∙ h .dists; parents = copied .1 ∙ h .parents; marks = copied .2 ∙ h .marks });
-              still = λ f. absurd (true≢false (sym z ∙ f));
-            }
+      -- or its round was copied into the table
+      pub goes : (q || eqb left 0) ≡ false → {ds′ ps′ ms′ : List ℕ} → (ds′ ≡ nd′) × (ps′ ≡ np′) × (ms′ ≡ nm′)
+          → Going root ls hs cs ws ds₀ ps₀ ms₀ ds′ ps′ ms′ (xd ++ drop n nd) (xp ++ drop n np) (xm ++ drop n nm) count (left - 1) (done + 1)
+      goes t {ds′} {ps′} {ms′} copied =
+          record {
+            table = record {
+              dists = ap length (copied .0) ∙ next-lengths .0 ∙ s .table .dists;
+              parents = ap length (copied .1) ∙ next-lengths .1 ∙ s .table .parents;
+              marks = ap length (copied .2) ∙ next-lengths .2 ∙ s .table .marks;
+            };
+            room = next-room;
+            running = goes-on root ls hs cs ws ds₀ ps₀ ms₀ ds ps ms count left done (s .running) q is-quiet t ds′ ps′ ms′
+                (record { dists = copied .0 ∙ next .dists; parents = copied .1 ∙ next .parents; marks = copied .2 ∙ next .marks });
+          }

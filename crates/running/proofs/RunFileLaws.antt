@@ -1,34 +1,35 @@
 -- A run over the slices that a file is taken apart into is the run of the park that the file holds.
 use Prim.Native.Nat.{ℕ, _+_, _*_, _≤_}
-use mathlib.Core.Path.{_≡_, sym, ap, ap₂, subst, _∙_}
-use mathlib.Core.Bool.{Bool, true}
-use mathlib.Core.List.{List, _++_}
-use lib.ListN.{length, take, drop, length-map}
-use lib.Seq.{sets}
-use Rattle.rule.specs.Round.{Cell, netOf}
-use Rattle.wire.specs.Big.{Bytes, big}
-use Rattle.slices.specs.Slices.{cellsOf, parkOf}
-use Rattle.park.specs.declared.refusal.Refusal.{Refusal}
-use Rattle.park.specs.declared.answer.Verdict.{Verdict}
-use Rattle.park.specs.declared.answer.Verdict.the-variants.{Fine, Refused}
+use Rattle.allowing.specs.Allowing.{readyFor, settled}
+use Rattle.answers.specs.declared.RunAnswer as answer
+use Rattle.apart.proofs.ApartLaws.{state-taken}
+use Rattle.apart.proofs.LentLaws.{links-again, park-again}
+use Rattle.area.specs.Area.{roomFor, areaWith}
+use Rattle.columns.specs.Columns.{column, little}
+use Rattle.park.proofs.VerdictLaws.{then-fine}
 use Rattle.park.specs.ParkFile.{parkIn, stateBytes}
 use Rattle.park.specs.Reading.{_then_, verdictOf, fileIn, nodesIn, rootIn, linkCount}
-use Rattle.park.proofs.VerdictLaws.{then-fine}
-use Rattle.slices.proofs.TableLaws.{cells-of}
-use Rattle.writing.specs.Area.{roomFor, areaWith}
+use Rattle.park.specs.declared.answer.Verdict.the-variants.{Fine, Refused}
+use Rattle.park.specs.declared.answer.Verdict.{Verdict}
 use Rattle.placing.proofs.PlacingLaws.{state-file}
-use Rattle.columns.specs.Columns.{column, little}
-use Rattle.apart.proofs.ApartLaws.{state-taken}
-use Rattle.run.specs.Run.{Outcome, runOf, runFrom, ranOf}
-use Rattle.run.specs.declared.Ran.{Ran}
+use Rattle.refusals.specs.declared.Refusal.{Refusal}
+use Rattle.rule.specs.Round.{Cell, netOf}
+use Rattle.run.proofs.RoomLaws.{true-room}
 use Rattle.run.proofs.StepLaws.{held}
-use Rattle.tables.specs.Fit.{fits, Together, Holds, Written}
-use Rattle.tables.proofs.FitLaws.{true-fit}
-use Rattle.running.specs.declared.RunAnswer as answer
-use Rattle.allowing.specs.Allowing.{readyFor, settled}
-use Rattle.running.specs.Running.{outcomeOf, runVerdict, runFile, answerBy, runAnswer}
+use Rattle.run.specs.Run.{Outcome, runnable, runOf, runFrom, ranOf}
+use Rattle.run.specs.declared.Ran.{Ran}
 use Rattle.running.specs.Ends.{Ends}
-use Rattle.apart.proofs.LentLaws.{part, again, links-again, park-again}
+use Rattle.running.specs.Running.{outcomeOf, runVerdict, runFile, answerBy, runAnswer}
+use Rattle.slices.proofs.PartLaws.{part, again}
+use Rattle.slices.proofs.TableLaws.{cells-of}
+use Rattle.slices.specs.Slices.{cellsOf, parkOf}
+use Rattle.tables.specs.Fit.{Holds, Written}
+use Rattle.wire.specs.Big.{Bytes, big}
+use lib.ListN.{length, take, drop, length-map}
+use lib.Seq.{sets}
+use mathlib.Core.Bool.{Bool, true}
+use mathlib.Core.List.{List, _++_}
+use mathlib.Core.Path.{_≡_, sym, ap, ap₂, subst, _∙_}
 
 -- the run from slices that hold the park and the state of a file
 run-slices : (s : List ℕ) (N root : ℕ) (ls hs cs ws ds ps ms : List ℕ) → length ds ≡ nodesIn s → parkOf (length ds) root ls hs cs ws ≡ parkIn (fileIn s)
@@ -43,32 +44,27 @@ ran-together fit o o′ r ds ps ms ds′ ps′ ms′ f e a w =
     (a ∙ ap₂ ranOf f e, subst (λ (x : Outcome). Holds (x .table) ds′ ps′ ms′) e (held fit (o .table) ds ps ms ds′ ps′ ms′ f w))
 
 -- what the run over the slices that a file was taken apart into answers and leaves, where the first parts of arrays are lent
-pub ran-apart : (s : List ℕ) → Bytes s → verdictOf s ≡ Fine → (N root l : ℕ) (zl ls zh hs zc cs ws d p m ds ps ms zd zp zm : List ℕ) → root ≡ rootIn s → l ≡ linkCount s
+pub ran-apart : (s : List ℕ) → Bytes s → verdictOf s ≡ Fine → (N root l : ℕ) (zl ls zh hs zc cs ws d p m ds ps ms : List ℕ) → root ≡ rootIn s → l ≡ linkCount s
     → (l ≤ length zl) × (l ≤ length zh) × (l ≤ length zc)
     → (length ls ≡ length (take l zl)) × (length hs ≡ length (take l zh)) × (length cs ≡ length (take l zc))
     → (ls ≡ column (big 2 s) 10 6 (length (take l zl))) × (hs ≡ column (big 2 s) 12 6 (length (take l zh))) × (cs ≡ column (big 2 s) 14 6 (length (take l zc)))
     → ws ≡ column (little 8 s) (13 + 6 * l) 8 4
-    → (length d ≡ nodesIn s) × (length p ≡ nodesIn s) × (length m ≡ nodesIn s) → (length ds ≡ length d) × (length ps ≡ length p) × (length ms ≡ length m)
+    → (length d ≡ nodesIn s) × (length p ≡ nodesIn s) × (length m ≡ nodesIn s) × (length d ≤ 256) → (length ds ≡ length d) × (length ps ≡ length p) × (length ms ≡ length m)
     → (ds ≡ column (big 4 s) (48 + 6 * l) 7 (length d)) × (ps ≡ column (big 2 s) (52 + 6 * l) 7 (length p)) × (ms ≡ column (big 1 s) (54 + 6 * l) 7 (length m))
-    → (length d ≤ length zd) × (length d ≤ length zp) × (length d ≤ length zm)
     → let ls′ = take l (ls ++ drop l zl) in
     let hs′ = take l (hs ++ drop l zh) in
     let cs′ = take l (cs ++ drop l zc) in
-    let fit : Bool = fits ls′ hs′ cs′ ds ps ms (take (length d) zd) (take (length d) zp) (take (length d) zm) in
+    let fit : Bool = runnable (length ls′) (length hs′) (length cs′) (length ds) (length ps) (length ms) in
     let o : Outcome = runFrom N 0 root ls′ hs′ cs′ ws ds ps ms in
     (r : Ran) (ds′ ps′ ms′ : List ℕ) → r ≡ ranOf fit o → Written fit (o .table) ds ps ms ds′ ps′ ms′
     → (r ≡ ranOf true (outcomeOf (fileIn s) N)) × Holds (outcomeOf (fileIn s) N .table) ds′ ps′ ms′
-ran-apart s b fine N root l zl ls zh hs zc cs ws d p m ds ps ms zd zp zm er el few kept links group size same state room r ds′ ps′ ms′ told left =
+ran-apart s b fine N root l zl ls zh hs zc cs ws d p m ds ps ms er el few kept links group size same state r ds′ ps′ ms′ told left =
     let long = same .0 ∙ size .0 in
     let park = park-again s b fine l el zl ls zh hs zc cs few kept links _ root ws long er group in
-    let together : Together (take l (ls ++ drop l zl)) (take l (hs ++ drop l zh)) (take l (cs ++ drop l zc)) ds ps ms (take (length d) zd) (take (length d) zp) (take (length d) zm) =
-    record {
-      links = links-again s b fine l el zl ls zh hs zc cs few kept links;
-      table = (same .1 ∙ size .1 ∙ sym long, same .2 ∙ size .2 ∙ sym long);
-      second = (sym (part (length d) zd (room .0)) ∙ sym (same .0), sym (part (length d) zp (room .1)) ∙ sym (same .0), sym (part (length d) zm (room .2)) ∙ sym (same .0));
-    } in
-    ran-together _ _ _ _ _ _ _ _ _ _ (true-fit _ _ _ _ _ _ _ _ _ together)
-    (run-slices s N root _ _ _ ws ds ps ms long park (state-taken s fine b l el _ _ _ ds ps ms size state))
+    ran-together _ _ _ _ _ _ _ _ _ _
+    (true-room _ _ _ _ _ _ (links-again s b fine l el zl ls zh hs zc cs few kept links) (same .1 ∙ size .1 ∙ sym long, same .2 ∙ size .2 ∙ sym long)
+    (subst (λ (k : ℕ). k ≤ 256) (sym (same .0)) (size .3)))
+    (run-slices s N root _ _ _ ws ds ps ms long park (state-taken s fine b l el _ _ _ ds ps ms (size .0, size .1, size .2) state))
     told left
 
 -- the refusal after the rounds, from what the run over slices answers
@@ -116,17 +112,24 @@ ends-done s old new zd ds zp ps zm ms N place n l ran v w b fine en el e f g h k
           ∙ ap₂ (λ (u : Verdict) (x : List ℕ). areaWith u x place old) (put ∙ room ∙ z) file;
     }
 
--- a call that is refused before its rounds, and one that is not
-pub run-refused : (s old : List ℕ) (N place : ℕ) (r : Refusal) → readyFor s N (length old) place ≡ Refused r
-    → (answer.the-variants.Refused r ≡ runAnswer s N (length old) place) × (old ≡ areaWith (runVerdict s N (length old) place) (runFile s N) place old)
-unfolding runAnswer runVerdict areaWith _then_
-run-refused s old N place r e = (simp e, simp e)
+-- a call that is refused for its file, one that is refused before its rounds, and one that is not
+module _ (s old : List ℕ) (N place : ℕ) where
+  pub file-refused : (r : Refusal) → verdictOf s ≡ Refused r
+      → (answer.the-variants.Refused r ≡ runAnswer s N (length old) place) × (old ≡ areaWith (runVerdict s N (length old) place) (runFile s N) place old)
+  unfolding runAnswer runVerdict areaWith _then_
+  file-refused r e = (simp e, simp e)
 
-pub run-ready : (s old new : List ℕ) (N place : ℕ) (r : answer.RunAnswer) → readyFor s N (length old) place ≡ Fine → Ends r s N old place new
-    → (r ≡ runAnswer s N (length old) place) × (new ≡ areaWith (runVerdict s N (length old) place) (runFile s N) place old)
-unfolding runAnswer runVerdict _then_
-run-ready s old new N place r e h = (rw e (h .answer), rw e (h .area))
+  module _ (fine : verdictOf s ≡ Fine) where
+    pub run-refused : (r : Refusal) → readyFor N (length s) (length old) place ≡ Refused r
+        → (answer.the-variants.Refused r ≡ runAnswer s N (length old) place) × (old ≡ areaWith (runVerdict s N (length old) place) (runFile s N) place old)
+    unfolding runAnswer runVerdict areaWith _then_
+    run-refused r e = (simp (fine, e), simp (fine, e))
 
-pub ready-fine : (s : List ℕ) (N area place : ℕ) → readyFor s N area place ≡ Fine → (verdictOf s ≡ Fine) × (roomFor (length s) area place ≡ Fine)
+    pub run-ready : (new : List ℕ) (r : answer.RunAnswer) → readyFor N (length s) (length old) place ≡ Fine → Ends r s N old place new
+        → (r ≡ runAnswer s N (length old) place) × (new ≡ areaWith (runVerdict s N (length old) place) (runFile s N) place old)
+    unfolding runAnswer runVerdict _then_
+    run-ready new r e h = (rw (fine, e) (h .answer), rw (fine, e) (h .area))
+
+pub ready-room : (N size area place : ℕ) → readyFor N size area place ≡ Fine → roomFor size area place ≡ Fine
 unfolding readyFor
-ready-fine s N area place e = let p = then-fine _ _ e in (p .0, then-fine _ _ (p .1) .1)
+ready-room N size area place e = then-fine _ _ e .1

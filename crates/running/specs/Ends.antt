@@ -3,9 +3,9 @@ use Prim.Native.Nat.{ℕ}
 use mathlib.Core.Path.{_≡_}
 use mathlib.Core.List.{List}
 use Rattle.park.specs.Reading.{fileIn}
-use Rattle.writing.specs.Area.{areaWith}
+use Rattle.area.specs.Area.{areaWith}
 use Rattle.allowing.specs.Allowing.{settled}
-use Rattle.running.specs.declared.RunAnswer as answer
+use Rattle.answers.specs.declared.RunAnswer as answer
 use Rattle.running.specs.Running.{outcomeOf, runFile, answerBy}
 
 -- what it answers, and the area that it leaves

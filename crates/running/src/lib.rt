@@ -1,9 +1,9 @@
-// Run: rounds over a park file, as a new file in a lent area. Crate allowing tells what is refused before and after the
-// rounds; between them the file is taken apart and the rounds are done on slices. The area is written last of all.
-// Counts are in rounds, sizes and places in bytes.
+// Run: rounds over a park file, as a new file in a lent area. The file is checked, and crate allowing tells what else is
+// refused before and after the rounds; between them the file is taken apart and the rounds are done on slices. The area is
+// written last of all. Counts are in rounds, sizes and places in bytes.
+use answers::RunAnswer;
 use measure::Rounds;
 use park::answer::Verdict;
-use park::refusal::Refusal;
 use run::Ran;
 ghost use mathlib.Core.Path.{_≡_};
 ghost use mathlib.Core.Bool.{true};
@@ -14,24 +14,11 @@ ghost use Rattle.park.specs.declared.answer.Verdict.the-variants.{Fine};
 ghost use Rattle.park.specs.Reading.{verdictOf, fileIn, nodesIn, rootIn, linkCount};
 ghost use Rattle.tables.specs.Fit.{Holds};
 ghost use Rattle.run.specs.Run.{ranOf};
-ghost use Rattle.writing.specs.Area.{roomFor, areaWith};
+ghost use Rattle.area.specs.Area.{roomFor, areaWith};
 ghost use Rattle.running.specs.Running.{outcomeOf, runVerdict, runFile, runAnswer};
 ghost use Rattle.running.specs.Ends.{Ends};
 
-// The largest number of nodes, and of links.
-const NODES: usize = 256;
-
-const LINKS: usize = 1024;
-
-// What Run answers.
-pub enum RunAnswer {
-    // The new file is in the area: the rounds done, in rounds, and whether one more round would change nothing.
-    Done { rounds: Rounds, quiet: bool },
-    Refused(Refusal),
-}
-
-// Takes a checked file apart and does the rounds, in room of its own: the table that the run comes to is left in the
-// three lent slices.
+// Takes a checked file apart and does the rounds: the table that the run comes to is left in the three lent slices.
 fn run_apart(
     file: &[u8],
     count: Rounds,
@@ -48,17 +35,13 @@ fn run_apart(
     ensures { λ _. ⌜ Holds (outcomeOf (fileIn (now (file .entry))) (count .0) .table) (now (dists .exit)) (now (parents .exit)) (now (marks .exit)) ⌝ }
 {
     let l = links as usize;
-    let n = dists.len();
-    let mut lows = [0u16; LINKS];
-    let mut highs = [0u16; LINKS];
-    let mut costs = [0u16; LINKS];
+    let mut lows = [0u16; park::LINKS];
+    let mut highs = [0u16; park::LINKS];
+    let mut costs = [0u16; park::LINKS];
     apart::take_links(file, &mut lows[..l], &mut highs[..l], &mut costs[..l]);
     let mut words = [0u64; 4];
     apart::take_group(file, links, &mut words);
     apart::take_state(file, links, dists, parents, marks);
-    let mut next_dists = [0u32; NODES];
-    let mut next_parents = [0u16; NODES];
-    let mut next_marks = [0u8; NODES];
     run::run(
         count,
         root,
@@ -69,9 +52,6 @@ fn run_apart(
         dists,
         parents,
         marks,
-        &mut next_dists[..n],
-        &mut next_parents[..n],
-        &mut next_marks[..n],
     )
 }
 
@@ -84,9 +64,9 @@ fn run_checked(file: &[u8], count: Rounds, area: &mut [u8], place: usize) -> Run
     let n = wire::big16(file, 3) as usize;
     let root = wire::big16(file, 5);
     let links = wire::big16(file, 8) / 6;
-    let mut dists = [0u32; NODES];
-    let mut parents = [0u16; NODES];
-    let mut marks = [0u8; NODES];
+    let mut dists = [0u32; park::NODES];
+    let mut parents = [0u16; park::NODES];
+    let mut marks = [0u8; park::NODES];
     let ran = run_apart(
         file,
         count,
@@ -125,8 +105,12 @@ pub fn run(file: &[u8], count: Rounds, area: &mut [u8], place: usize) -> RunAnsw
         ⌜ (r ≡ runAnswer s (count .0) (length old) place)
         × (now (area .exit) ≡ areaWith (runVerdict s (count .0) (length old) place) (runFile s (count .0)) place old) ⌝ }
 {
-    let found = allowing::ready(file, count, area.len(), place);
+    let found = fields::verdict(file);
     if let Verdict::Refused(r) = found {
+        return RunAnswer::Refused(r);
+    }
+    let allowed = allowing::ready(count, file.len(), area.len(), place);
+    if let Verdict::Refused(r) = allowed {
         return RunAnswer::Refused(r);
     }
     run_checked(file, count, area, place)

@@ -3,12 +3,12 @@
 // prints only its number and its place in bytes. A failed read or write is told on standard error.
 mod input;
 
-use chandvreksh::Checked;
-use chandvreksh::Refusal;
-use chandvreksh::RunAnswer;
+use answers::RunAnswer;
 use libc::STDIN_FILENO;
 use libc::STDOUT_FILENO;
 use measure::Rounds;
+use park::answer::Checked;
+use refusals::Refusal;
 
 // One byte more than the largest file: enough to see that bytes follow it, whatever else is to come.
 const ROOM: usize = 7985;
@@ -35,7 +35,7 @@ pub fn show_refusal(refusal: Refusal) {
 fn run_and_show(file: &[u8], nodes: u16, links: u16, count: Rounds) {
     let mut settled = [0u8; ROOM];
     let mut page = [0u8; PAGE];
-    let answer = chandvreksh::run(file, count, &mut settled, 0);
+    let answer = running::run(file, count, &mut settled, 0);
     match answer {
         RunAnswer::Refused(refusal) => show_refusal(refusal),
         RunAnswer::Done { rounds, quiet: _ } => {
@@ -47,7 +47,7 @@ fn run_and_show(file: &[u8], nodes: u16, links: u16, count: Rounds) {
 
 // Checks the file first, for its nodes and links; the count is in rounds.
 pub fn settle_file(file: &[u8], count: Rounds) {
-    let found = chandvreksh::check(file);
+    let found = checking::check(file);
     match found {
         Checked::Refused(refusal) => show_refusal(refusal),
         Checked::Park { nodes, links } => run_and_show(file, nodes, links, count),

@@ -1,13 +1,10 @@
 -- What a reader answers, by the tests on its way: the number is 0, past the end, or a node, whose place is one less than its number.
-use Prim.Native.Nat.{ℕ, zero, suc, _-_, _/_, _%_, _^_, _≤_, _<_}
-use native.Mathlib.Nat.{zero-div, not-suc-le-zero, le-of-suc-le-suc}
+use Prim.Native.Nat.{ℕ, zero, suc, _-_, _≤_, _<_}
+use native.Mathlib.Nat.{not-suc-le-zero, le-of-suc-le-suc}
 use native.Mathlib.Omega.{arith}
 use mathlib.Core.Path.{_≡_, refl, sym}
-use mathlib.Core.Bool.{false}
 use mathlib.Core.List.{List, [], _∷_}
 use lib.ListN.{length, getD, List·getD-eq-default}
-use lib.Dec.{eqb}
-use Rattle.slices.specs.Group.{bitSet, memberIn}
 use Rattle.slices.specs.Reading.{nodeAt}
 
 -- within a list it does not matter what stands past its end
@@ -24,21 +21,3 @@ module _ (none : ℕ) (xs : List ℕ) where
   pub node-in : (i : ℕ) → (i ≡ 0 → ⊥) → i - 1 < length xs → getD xs (i - 1) 0 ≡ nodeAt none xs i
   node-in zero h k = absurd (h refl)
   node-in (suc i) h k = let z : suc i - 1 ≡ i = omega arith in rw z (getD-any xs i 0 none (omega arith))
-
-module _ (xs : List ℕ) where
-  pub member-zero : (i : ℕ) → i ≡ 0 → false ≡ memberIn 64 xs i
-  unfolding memberIn
-  member-zero i e = rw e
-
-  pub member-out : (i : ℕ) → (i ≡ 0 → ⊥) → length xs ≤ (i - 1) / 64 → false ≡ memberIn 64 xs i
-  unfolding memberIn bitSet
-  member-out zero h k = absurd (h refl)
-  member-out (suc i) h k =
-      let z : suc i - 1 ≡ i = omega arith in
-      let l : length xs ≤ i / 64 = rw z at k in
-      rw (List·getD-eq-default xs 0 l) (rw zero-div)
-
-  pub member-in : (i : ℕ) → (i ≡ 0 → ⊥) → eqb (getD xs ((i - 1) / 64) 0 / 2 ^ ((i - 1) % 64) % 2) 1 ≡ memberIn 64 xs i
-  unfolding memberIn bitSet
-  member-in zero h = absurd (h refl)
-  member-in (suc i) h = let z : suc i - 1 ≡ i = omega arith in rw z

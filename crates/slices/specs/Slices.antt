@@ -2,7 +2,7 @@
 use Prim.Native.Nat.{ℕ}
 use mathlib.Core.List.{List, [], _∷_, map}
 use Rattle.rule.specs.Round.{Link, Cell, Park}
-use Rattle.slices.specs.Group.{memberIn}
+use Rattle.group.specs.Group.{memberIn}
 
 -- the links whose lower ends, higher ends and costs (in cost units) stand at the same places
 unfoldable pub linksOf : List ℕ → List ℕ → List ℕ → List Link

@@ -1,9 +1,8 @@
 // What the lent slices hold for a node. Each reader answers for every number: one that is no node has no distance, no
-// parent and no mark, and is no member.
+// parent and no mark.
 use measure::Cost;
 ghost use mathlib.Core.Path.{_≡_};
 ghost use Rattle.measure.specs.Measure.{ceiling};
-ghost use Rattle.slices.specs.Group.{memberIn};
 ghost use Rattle.slices.specs.Reading.{nodeAt};
 
 // The stored distance of `node`, in cost units; the ceiling for a number that is no node.
@@ -46,19 +45,4 @@ pub fn mark_at(marks: &[u8], node: usize) -> u8
         return 0;
     }
     marks[at]
-}
-
-// Whether `node` is in the group, whose 64-bit words have node 1 as the lowest bit of the first.
-pub fn is_member(words: &[u64], node: usize) -> bool
-    ensures { λ r. ⌜ r ≡ memberIn 64 (now (words .entry)) node ⌝ }
-{
-    if node == 0 {
-        return false;
-    }
-    let bit = node - 1;
-    let at = bit / 64;
-    if words.len() <= at {
-        return false;
-    }
-    (words[at] >> (bit % 64)) % 2 == 1
 }

@@ -7,7 +7,8 @@ use native.Mathlib.Omega.{arith}
 use lib.ListN.{length, getD, set, drop, drop-of-length-le, length-append}
 use lib.Seq.{sets, drop-cons}
 use Rattle.wire.specs.Big.{bytesOf}
-use Rattle.wire.proofs.BigLaws.{sets-append, put-both, length-bytesOf}
+use Rattle.lent.proofs.StoreLaws.{sets-append, put-both}
+use Rattle.wire.proofs.BigLaws.{length-bytesOf}
 use Rattle.park.specs.ParkFile.{stateBytes}
 use Rattle.slices.specs.Slices.{cellsOf}
 use Rattle.storing.specs.Storing.{cellBytes}

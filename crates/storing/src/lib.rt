@@ -17,7 +17,7 @@ fn put_cell(area: &mut [u8], at: usize, dist: u32, parent: u16, mark: u8)
 {
     wire::put32(area, at, dist);
     wire::put16(area, at + 4, parent);
-    wire::put_byte(area, at + 6, mark);
+    lent::put_byte(area, at + 6, mark);
 }
 
 // Puts distances (in cost units), parents and marks, node 1 first, as the records of the state from a place on; as many

@@ -9,7 +9,7 @@ use lib.ListN.{length}
 use lib.Dec.{T, eqb}
 use Rattle.rule.specs.Round.{Cell, Park, at, numbered}
 use Rattle.wire.specs.Big.{Bytes, big}
-use Rattle.slices.specs.Group.{memberIn}
+use Rattle.group.specs.Group.{memberIn}
 use Rattle.slices.specs.Slices.{cellsOf, parkOf}
 use Rattle.slices.specs.Reading.{nodeAt}
 use Rattle.slices.proofs.TableLaws.{slices, part-at}
@@ -21,8 +21,9 @@ use Rattle.park.proofs.ParkLaws.{read-park-ok}
 use Rattle.columns.specs.Columns.{column, little}
 use Rattle.apart.proofs.ApartLaws.{length-column, park-here, state-here}
 use Rattle.group.specs.Count as group
+use Rattle.serving.specs.Serving as serving
 use Rattle.group.proofs.WordLaws.{members-within}
-use Rattle.summing.specs.declared.Counts.{Counts}
+use Rattle.answers.specs.declared.Counts.{Counts}
 use Rattle.summing.specs.Marked.{isMember, isMarked}
 use Rattle.summing.specs.Served.{isServed}
 use Rattle.summing.specs.Summing.{countsOf}
@@ -57,7 +58,7 @@ module _ (s : List ℕ) (bytes : Bytes s) (fine : verdictOf s ≡ Fine) where
   unfolding parkOf
   member-same i = ap (λ (p : Park). p .member i) (park-here s bytes (file-read s fine))
 
-  mark-same : (i : ℕ) → group.markSet marks i ≡ isMarked (fileIn s) i
+  mark-same : (i : ℕ) → serving.markSet marks i ≡ isMarked (fileIn s) i
   mark-same i =
       let ds : List ℕ = column (big 4 s) (48 + 6 * l) 7 n in
       let ps : List ℕ = column (big 2 s) (52 + 6 * l) 7 n in
@@ -69,7 +70,7 @@ module _ (s : List ℕ) (bytes : Bytes s) (fine : verdictOf s ≡ Fine) where
       ap (λ (M : ℕ → ℕ). M i) (sym t) ∙ ap (λ (u : List Cell). at u i .mark) (state-here s bytes (file-read s fine)) in
       ap (λ (x : ℕ). not (eqb x 0)) m
 
-  served-same : (i : ℕ) → group.isServed words marks i ≡ isServed (fileIn s) i
+  served-same : (i : ℕ) → serving.isServed words marks i ≡ isServed (fileIn s) i
   unfolding isServed
   served-same i = ap₂ (λ (a b : Bool). a && b) (member-same i) (mark-same i)
 
@@ -85,19 +86,19 @@ module _ (s : List ℕ) (bytes : Bytes s) (fine : verdictOf s ≡ Fine) where
 
   -- the counts over slices that hold the columns
   pub counts-apart : (c : Counts) (ws ms : List ℕ) → ws ≡ words → ms ≡ column (big 1 s) (54 + lengthAt s 7) 7 n
-      → c .members ≡ group.membersOf ws → c .marked ≡ group.markedOf ms → c .served ≡ group.servedOf ws ms → c ≡ countsOf (fileIn s)
-  unfolding countsOf fileIn group.markedOf group.servedOf
+      → c .members ≡ group.membersOf ws → c .marked ≡ serving.markedOf ms → c .served ≡ serving.servedOf ws ms → c ≡ countsOf (fileIn s)
+  unfolding countsOf fileIn serving.markedOf serving.servedOf
   counts-apart c ws ms e f members marked served =
       let m : ms ≡ marks = f ∙ ap (λ (k : ℕ). column (big 1 s) (54 + k) 7 n) (sym (six s bytes (file-read s fine))) in
       let k : length ms ≡ n = ap length m ∙ size in
       let a : c .members ≡ group.count (isMember (fileIn s)) (numbered 1 n) = members ∙ ap group.membersOf e ∙ members-here in
       let b : c .marked ≡ group.count (isMarked (fileIn s)) (numbered 1 n) =
       marked
-      ∙ ap₂ (λ (x : List ℕ) (j : ℕ). group.count (group.markSet x) (numbered 1 j)) m k
+      ∙ ap₂ (λ (x : List ℕ) (j : ℕ). group.count (serving.markSet x) (numbered 1 j)) m k
       ∙ ap (λ (g : ℕ → Bool). group.count g (numbered 1 n)) (fun-ext mark-same) in
       let d : c .served ≡ group.count (isServed (fileIn s)) (numbered 1 n) =
       served
-      ∙ ap₂ (λ (x : List ℕ) (j : ℕ). group.count (group.isServed ws x) (numbered 1 j)) m k
-      ∙ ap (λ (x : List ℕ). group.count (group.isServed x marks) (numbered 1 n)) e
+      ∙ ap₂ (λ (x : List ℕ) (j : ℕ). group.count (serving.isServed ws x) (numbered 1 j)) m k
+      ∙ ap (λ (x : List ℕ). group.count (serving.isServed x marks) (numbered 1 n)) e
       ∙ ap (λ (g : ℕ → Bool). group.count g (numbered 1 n)) (fun-ext served-same) in
       λ i. record { members = a i; marked = b i; served = d i }

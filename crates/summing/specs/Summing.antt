@@ -8,8 +8,8 @@ use Rattle.park.specs.declared.answer.Verdict.the-variants.{Fine, Refused}
 use Rattle.park.specs.ParkFile.{ParkFile}
 use Rattle.park.specs.Reading.{verdictOf, fileIn}
 use Rattle.group.specs.Count.{count}
-use Rattle.summing.specs.declared.Counts.{Counts}
-use Rattle.summing.specs.declared.SummaryAnswer as answer
+use Rattle.answers.specs.declared.Counts.{Counts}
+use Rattle.answers.specs.declared.SummaryAnswer as answer
 use Rattle.summing.specs.Marked.{isMember, isMarked}
 use Rattle.summing.specs.Served.{isServed}
 

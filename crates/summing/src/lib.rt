@@ -1,36 +1,19 @@
 // Summary: how many nodes of a park file are members, are marked, and are served members. The file is checked, its group
 // set is taken apart into four whole words and its marks into a local array, and both are counted there.
+use answers::Counts;
+use answers::SummaryAnswer;
 use park::answer::Verdict;
-use park::refusal::Refusal;
 ghost use mathlib.Core.Path.{_≡_};
 ghost use Prim.Native.Nat.{_≤_};
 ghost use lib.ListN.{length};
 ghost use Rattle.park.specs.declared.answer.Verdict.the-variants.{Fine};
 ghost use Rattle.park.specs.Reading.{nodesIn, verdictOf, fileIn};
-ghost use Rattle.group.specs.Count.{membersOf, markedOf, servedOf};
+ghost use Rattle.group.specs.Count.{membersOf};
+ghost use Rattle.serving.specs.Serving.{markedOf, servedOf};
 ghost use Rattle.summing.specs.Summing.{countsOf, summaryAnswer};
 
 // The words of the group set.
 const WORDS: usize = 4;
-
-// The most nodes of a file.
-const NODES: usize = 256;
-
-// The counts of a summary.
-pub struct Counts {
-    // The members of the group, in nodes.
-    pub members: u32,
-    // The nodes whose stored mark is set, in nodes.
-    pub marked: u32,
-    // The members whose stored mark is set, in nodes.
-    pub served: u32,
-}
-
-// What Summary answers.
-pub enum SummaryAnswer {
-    Counted(Counts),
-    Refused(Refusal),
-}
 
 // The three counts, over the words of the group set and the marks of no more nodes than a file has.
 fn count_all(words: &[u64], marks: &[u8]) -> Counts
@@ -38,8 +21,8 @@ fn count_all(words: &[u64], marks: &[u8]) -> Counts
     ensures { λ r. ⌜ (r .members ≡ membersOf (now (words .entry))) × (r .marked ≡ markedOf (now (marks .entry))) × (r .served ≡ servedOf (now (words .entry)) (now (marks .entry))) ⌝ }
 {
     let members = group::members(words);
-    let marked = group::marked(marks) as u32;
-    let served = group::served(words, marks) as u32;
+    let marked = serving::marked(marks) as u32;
+    let served = serving::served(words, marks) as u32;
     Counts {
         members,
         marked,
@@ -65,7 +48,7 @@ fn counts_in(file: &[u8]) -> Counts
 {
     let nodes = wire::number_at(file, 3);
     let mut words = [0u64; WORDS];
-    let mut marks = [0u8; NODES];
+    let mut marks = [0u8; park::NODES];
     counts_over(file, &mut words, &mut marks[..nodes])
 }
 
@@ -73,7 +56,7 @@ fn counts_in(file: &[u8]) -> Counts
 pub fn summary(file: &[u8]) -> SummaryAnswer
     ensures { λ r. ⌜ r ≡ summaryAnswer (now (file .entry)) ⌝ }
 {
-    let found = checking::verdict(file);
+    let found = fields::verdict(file);
     match found {
         Verdict::Refused(r) => SummaryAnswer::Refused(r),
         Verdict::Fine => SummaryAnswer::Counted(counts_in(file)),

@@ -1,12 +1,13 @@
 -- Whether slices belong together, test by test, and what it gives where they do.
 use Prim.Native.Nat.{ℕ}
 use mathlib.Core.Path.{_≡_, refl}
-use mathlib.Core.Bool.{Bool, true, false, _&&_, false≢true}
+use mathlib.Core.Bool.{Bool, true, false, _&&_}
 use mathlib.Core.List.{List}
 use lib.ListN.{length}
 use lib.Dec.{eqb}
 use borrow.Author.Tests.{eqb-true, eq-eqb, ne-eqb}
 use Rattle.rule.specs.Round.{Cell}
+use Rattle.slices.proofs.TestLaws.{both-true}
 use Rattle.tables.specs.Fit.{even, fits, Together, Holds, Written}
 
 pub even-first : (n a b : ℕ) → a ≡ n → eqb b n ≡ even n a b
@@ -16,10 +17,6 @@ pub even-not : (n a b : ℕ) → (a ≡ n → ⊥) → false ≡ even n a b
 even-not n a b h = rw (ne-eqb a n h)
 
 -- the test and the fact
-
-pub both-true : (p q : Bool) → (p && q) ≡ true → (p ≡ true) × (q ≡ true)
-both-true true q e = (refl, e)
-both-true false q e = (e, absurd (false≢true e))
 
 pub even-true : (n a b : ℕ) → even n a b ≡ true → (a ≡ n) × (b ≡ n)
 even-true n a b e = let z = both-true (eqb a n) (eqb b n) e in (eqb-true a n (z .0), eqb-true b n (z .1))

@@ -1,2 +1,1 @@
 pub mod FitLaws
-pub mod SameLaws

@@ -1,7 +1,7 @@
 // The text that settle prints, of a settled table and of a refusal, put into a page piece by piece. What does not fit is
 // left out.
 use measure::Rounds;
-use park::refusal::Refusal;
+use refusals::Refusal;
 ghost use Prim.Native.Nat.{_≤_};
 ghost use lib.ListN.{length};
 ghost use Rattle.io.specs.Counts.{Counts};
@@ -14,7 +14,7 @@ fn put(page: &mut [u8], at: usize, text: &[u8]) -> usize
     if page.len() - at < text.len() {
         return at;
     }
-    wire::put_bytes(page, at, text);
+    lent::put_bytes(page, at, text);
     at + text.len()
 }
 
@@ -37,7 +37,7 @@ fn put_line(page: &mut [u8], at: usize, file: &[u8], node: u64, from: usize) -> 
     let mut end = put_number(page, at, node, b" ");
     end = put_number(page, end, wire::big32(file, from) as u64, b" ");
     end = put_number(page, end, wire::big16(file, from + 4) as u64, b" ");
-    put_number(page, end, wire::byte_at(file, from + 6) as u64, b"\n")
+    put_number(page, end, lent::byte_at(file, from + 6) as u64, b"\n")
 }
 
 // Puts the lines of all nodes of a file of so many nodes and links.

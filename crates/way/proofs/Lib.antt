@@ -1,4 +1,3 @@
-pub mod NeighbourLaws
 pub mod FollowLaws
 pub mod SlicesLaws
 pub mod WayLaws

@@ -11,8 +11,8 @@ use Rattle.rule.specs.Round.{Arc, Cell, Link, at, arcsOf}
 use Rattle.slices.specs.Slices.{linksOf, cellsOf, parkOf}
 use Rattle.slices.specs.Reading.{nodeAt}
 use Rattle.slices.proofs.TableLaws.{slices, part-at}
-use Rattle.way.specs.Way.{hears, neighbour, followed, wayOf, parkWay}
-use Rattle.way.specs.Ends.{endsOf, nodesIn}
+use Rattle.neighbours.specs.Neighbours.{endsOf, hears, neighbour}
+use Rattle.way.specs.Way.{followed, wayOf, parkWay, nodesIn}
 
 -- the parent that the rule reads in the table that three slices hold
 pub parent-in-table : (ds ps ms : List ℕ) → length ds ≡ length ps → length ms ≡ length ps → (i : ℕ) → at (cellsOf ds ps ms) i .parent ≡ nodeAt 0 ps i

@@ -1,22 +1,15 @@
 -- The way of a node, of document 01: where following stored parents leads.
 -- Nodes are numbered from 1, and 0 is no node; hop counts are in hops.
-use Prim.Native.Nat.{ℕ, zero, suc}
-use mathlib.Core.Bool.{Bool, false, cond, _||_}
-use mathlib.Core.List.{List, [], _∷_}
+use Prim.Native.Nat.{ℕ, zero, suc, min}
+use mathlib.Core.Bool.{cond}
+use mathlib.Core.List.{List}
+use lib.ListN.{length}
 use lib.Dec.{eqb}
-use Rattle.rule.specs.Round.{Arc, Cell, Link, Park, arcsOf, at}
+use Rattle.rule.specs.Round.{Cell, Link, Park, at}
+use Rattle.neighbours.specs.Neighbours.{neighbour}
 use Rattle.way.specs.declared.Way.{Way}
 use Rattle.way.specs.declared.Outcome.{Outcome}
 use Rattle.way.specs.declared.Outcome.the-variants.{Reached, Broken, Looping}
-
--- whether some of the arcs comes from q
-unfoldable pub hears : List Arc → ℕ → Bool
-hears [] q = false
-hears (a ∷ xs) q = eqb (a .from) q || hears xs q
-
--- whether q is one of node i's neighbours: the sender of an arc that i hears. "0 never is"
-unfoldable pub neighbour : List Link → ℕ → ℕ → Bool
-neighbour ls i q = cond (eqb q 0) false (hears (arcsOf ls i) q)
 
 -- "Following stored parents takes one hop at a time, from the node. Reached, with the hops, on meeting the root, whose own parent is not read.
 -- Broken, with the node whose parent is not one of its neighbours. Looping, when n hops have met neither."
@@ -33,3 +26,7 @@ wayOf root ls Q n i = record { node = i; outcome = followed root ls Q n 0 i }
 -- the way of node i in a park whose stored table is t
 unfoldable pub parkWay : Park → List Cell → ℕ → Way
 parkWay p t i = wayOf (p .root) (p .links) (λ j. at t j .parent) (p .nodes) i
+
+-- the nodes that a slice has parents of, counted in nodes; their numbers have 16 bits, so no more than 65,535
+abbrev pub nodesIn : List ℕ → ℕ
+nodesIn ps = min 65_535 (length ps)

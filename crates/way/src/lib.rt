@@ -1,14 +1,13 @@
 // The way of a node: where following stored parents leads, over lent slices of plain numbers. Links are two slices, the lower
 // ends and the higher ends, and parents one, node 1's first. Nothing is refused: every number has a way, also one that is no node.
 use measure::Hops;
+use neighbours::is_neighbour;
 use slices::parent_at;
 ghost use mathlib.Core.Path.{_≡_};
-ghost use mathlib.Core.Bool.{cond};
-ghost use lib.Dec.{eqb};
 ghost use Prim.Native.Nat.{_+_, _≤_};
 ghost use Rattle.slices.specs.Reading.{nodeAt};
-ghost use Rattle.way.specs.Way.{neighbour, followed, wayOf};
-ghost use Rattle.way.specs.Ends.{endsOf, nodesIn};
+ghost use Rattle.neighbours.specs.Neighbours.{endsOf};
+ghost use Rattle.way.specs.Way.{nodesIn, followed, wayOf};
 
 // Where following parents led.
 pub enum Outcome {
@@ -24,39 +23,6 @@ pub enum Outcome {
 pub struct Way {
     pub node: u16,
     pub outcome: Outcome,
-}
-
-// The node that `node` hears over the link between `low` and `high`; 0 where it is no end of the link.
-pub(crate) fn sender(low: u16, high: u16, node: u16) -> u16
-    ensures { λ r. ⌜ r ≡ cond (eqb low node) high (cond (eqb high node) low 0) ⌝ }
-{
-    if low == node {
-        return high;
-    }
-    if high == node {
-        return low;
-    }
-    0
-}
-
-// Whether `other` is one of the neighbours of `node`, both by number. 0 is no neighbour. Ends without a counterpart are no link.
-pub fn is_neighbour(lows: &[u16], highs: &[u16], node: u16, other: u16) -> bool
-    ensures { λ r. ⌜ r ≡ neighbour (endsOf (now (lows .entry)) (now (highs .entry))) node other ⌝ }
-{
-    if other == 0 {
-        return false;
-    }
-    let mut k = 0;
-    while k < lows.len() {
-        if highs.len() <= k {
-            return false;
-        }
-        if sender(lows[k], highs[k], node) == other {
-            return true;
-        }
-        k += 1;
-    }
-    false
 }
 
 // The stored parent of `node`, both by number; 0 for a number that is no node.

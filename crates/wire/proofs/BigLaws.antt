@@ -6,7 +6,8 @@ use native.Mathlib.Nat.{add-zero, zero-add, pow-suc}
 use native.Mathlib.Numerals.{add-one}
 use native.Mathlib.Omega.{arith}
 use lib.ListN.{length, getD, set, take, drop, length-append, List·getD-eq-default, List·getD-append, length-drop}
-use lib.Seq.{sets, drop-cons, set-out, take-suc, getD-drop, getD-append-add, take-at, drop-at}
+use lib.Seq.{sets, take-suc, getD-drop, getD-append-add, take-at, drop-at}
+use Rattle.lent.proofs.StoreLaws.{put-both}
 use Rattle.wire.specs.Big.{Bytes, big, bytesOf}
 
 -- a number that starts outside the list is 0
@@ -115,18 +116,6 @@ read-written (suc k) s i b h =
     let ih : bytesOf k (big k s i) ≡ take k (drop i s) = read-written k s i b (omega arith) in
     rw (q, m, ih) (sym (take-suc (drop i s) k 0 room ∙ ap (λ (x : ℕ). take k (drop i s) ++ (x ∷ [])) (getD-drop i s k 0)))
 
--- a store outside the list changes nothing
-pub sets-out : (l : List ℕ) (i : ℕ) (vs : List ℕ) → length l ≤ i → sets l i vs ≡ l
-sets-out l i [] h = refl
-sets-out l i (v ∷ vs) h = rw (set-out l i v h) (sets-out l (suc i) vs (omega arith))
-
--- stores one behind the other are one store
-pub sets-append : (l : List ℕ) (i : ℕ) (a b : List ℕ) → sets (sets l i a) (i + length a) b ≡ sets l i (a ++ b)
-sets-append l i [] b = rw add-zero
-sets-append l i (x ∷ a) b =
-    let e : i + suc (length a) ≡ suc i + length a = omega arith in
-    rw e (sets-append (set l i x) (suc i) a b)
-
 pub bytes-two : (x : ℕ) → bytesOf 2 x ≡ x / 256 % 256 ∷ (x % 256 ∷ [])
 unfolding bytesOf
 bytes-two x = refl
@@ -140,14 +129,6 @@ bytes-four x =
     let d : x % 256 ≡ x % 65536 % 256 = omega arith in
     rw (a, b, c, d)
 
--- a store into what stands for a list is one into the list
-pub put-then : (i : ℕ) (xs : List ℕ) {l m n : List ℕ} → m ≡ l → n ≡ sets m i xs → n ≡ sets l i xs
-put-then i xs e f = f ∙ ap (λ (x : List ℕ). sets x i xs) e
-
--- two stores, the second right behind the first, are one
-pub put-both : (l : List ℕ) (i j : ℕ) (a b : List ℕ) {m n : List ℕ} → j ≡ i + length a → m ≡ sets l i a → n ≡ sets m j b → n ≡ sets l i (a ++ b)
-put-both l i j a b h e f = put-then j b e f ∙ ap (λ (k : ℕ). sets (sets l i a) k b) h ∙ sets-append l i a b
-
 pub put-two : (l : List ℕ) (i x : ℕ) {m n : List ℕ} → m ≡ set l i (x / 256 % 256) → n ≡ set m (i + 1) (x % 256) → n ≡ sets l i (bytesOf 2 x)
 put-two l i x e f =
     rw (bytes-two x) (put-both l i (i + 1) (x / 256 % 256 ∷ []) (x % 256 ∷ []) refl e f)
@@ -157,11 +138,3 @@ pub put-four : (l : List ℕ) (i x : ℕ) {m n : List ℕ} → m ≡ sets l i (b
 put-four l i x e f =
     let h : i + 2 ≡ i + length (bytesOf 2 (x / 65536)) = ap (λ (k : ℕ). i + k) (sym (length-bytesOf 2 (x / 65536))) in
     rw (bytes-four x) (put-both l i (i + 2) (bytesOf 2 (x / 65536)) (bytesOf 2 (x % 65536)) h e f)
-
--- one byte of a run, and the rest
-pub bytes-turn : (whole l xs : List ℕ) (at i : ℕ) → i < length xs → sets l at (drop i xs) ≡ whole
-    → sets (set l at (getD xs i 0)) (at + 1) (drop (i + 1) xs) ≡ whole
-bytes-turn whole l xs at i h e =
-    let f : drop i xs ≡ getD xs i 0 ∷ drop (suc i) xs = drop-cons xs i 0 h in
-    let g : sets (set l at (getD xs i 0)) (suc at) (drop (suc i) xs) ≡ whole = rw f at e in
-    rw (add-one at, add-one i) g

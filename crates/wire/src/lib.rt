@@ -2,7 +2,6 @@
 // one that would be written there is dropped. Places are in bytes from the slice's start.
 ghost use mathlib.Core.Path.{_≡_};
 ghost use Prim.Native.Nat.{_<_};
-ghost use lib.ListN.{getD, set};
 ghost use lib.Seq.{sets};
 ghost use Rattle.wire.specs.Big.{big, bytesOf};
 
@@ -13,16 +12,6 @@ pub fn wide(x: u16) -> usize
     x as usize
 }
 
-// The byte at a place, in bytes; 0 outside the slice.
-pub fn byte_at(s: &[u8], place: usize) -> u8
-    ensures { λ r. ⌜ r ≡ getD (now (s .entry)) place 0 ⌝ }
-{
-    if place < s.len() {
-        return s[place];
-    }
-    0
-}
-
 // The 16-bit number at a place, in bytes.
 pub fn big16(s: &[u8], place: usize) -> u16
     ensures { λ r. ⌜ r ≡ big 2 (now (s .entry)) place ⌝ }
@@ -31,7 +20,7 @@ pub fn big16(s: &[u8], place: usize) -> u16
         return 0;
     }
     let high = s[place] as u16;
-    let low = byte_at(s, place + 1) as u16;
+    let low = lent::byte_at(s, place + 1) as u16;
     high * 256 + low
 }
 
@@ -54,15 +43,6 @@ pub fn number_at(s: &[u8], place: usize) -> usize
     wide(big16(s, place))
 }
 
-// Puts a byte at a place, in bytes.
-pub fn put_byte(s: &mut [u8], place: usize, x: u8)
-    ensures { λ _. ⌜ now (s .exit) ≡ set (now (s .entry)) place x ⌝ }
-{
-    if place < s.len() {
-        s[place] = x;
-    }
-}
-
 // Puts a 16-bit number at a place, in bytes.
 pub fn put16(s: &mut [u8], place: usize, x: u16)
     ensures { λ _. ⌜ now (s .exit) ≡ sets (now (s .entry)) place (bytesOf 2 x) ⌝ }
@@ -71,7 +51,7 @@ pub fn put16(s: &mut [u8], place: usize, x: u16)
         return;
     }
     s[place] = (x / 256 % 256) as u8;
-    put_byte(s, place + 1, (x % 256) as u8);
+    lent::put_byte(s, place + 1, (x % 256) as u8);
 }
 
 // Puts a 32-bit number at a place, in bytes.
@@ -83,20 +63,4 @@ pub fn put32(s: &mut [u8], place: usize, x: u32)
     }
     put16(s, place, (x / 65536) as u16);
     put16(s, place + 2, (x % 65536) as u16);
-}
-
-// Puts bytes at a place, in bytes, and behind it.
-pub fn put_bytes(s: &mut [u8], place: usize, bytes: &[u8])
-    ensures { λ _. ⌜ now (s .exit) ≡ sets (now (s .entry)) place (now (bytes .entry)) ⌝ }
-{
-    let mut at = place;
-    let mut i = 0;
-    while i < bytes.len() {
-        if s.len() <= at {
-            return;
-        }
-        s[at] = bytes[i];
-        at = at + 1;
-        i = i + 1;
-    }
 }

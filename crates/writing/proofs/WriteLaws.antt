@@ -1,40 +1,26 @@
 -- What Write answers, by the verdict on the file that was made and by the room in the area.
 use Prim.Native.Nat.{ℕ, _+_, _-_, _≤_}
-use mathlib.Core.Path.{_≡_, refl, sym, ap, ap₂, _∙_}
-use mathlib.Core.List.{List, [], _++_, append-nil}
-use native.Mathlib.Omega.{arith}
-use borrow.Author.Tests.{le-leb}
-use lib.ListN.{length, take, drop, drop-of-length-le, length-drop}
-use lib.Seq.{sets, sets-eq, length-sets, drop-drop, take-all, take-append-seam}
-use Rattle.park.specs.declared.refusal.Refusal.{Refusal}
-use Rattle.park.specs.declared.answer.Verdict.{Verdict}
-use Rattle.park.specs.declared.answer.Verdict.the-variants.{Fine, Refused}
+use Rattle.answers.specs.declared.Written.the-variants.{Done}
+use Rattle.area.specs.Area.{roomFor, areaWith}
+use Rattle.making.proofs.FileLaws.{numbersFile, file-encode}
+use Rattle.park.proofs.RoundTrip.{encode-fine}
 use Rattle.park.specs.ParkFile.{ParkFile, ParkFileOk, encode}
 use Rattle.park.specs.Reading.{unless, _then_, verdictOf}
-use Rattle.park.proofs.RoundTrip.{encode-fine}
-use Rattle.making.proofs.FileLaws.{numbersFile, file-encode}
-use Rattle.writing.specs.declared.Written.the-variants.{Done}
-use Rattle.writing.specs.Area.{roomFor, areaWith}
+use Rattle.park.specs.declared.answer.Verdict.the-variants.{Fine, Refused}
+use Rattle.park.specs.declared.answer.Verdict.{Verdict}
+use Rattle.refusals.specs.declared.Refusal.{Refusal}
 use Rattle.writing.specs.Writing.{answerBy, writeVerdict, writeOf}
+use borrow.Author.Tests.{le-leb}
+use lib.ListN.{length, take, drop}
+use lib.Seq.{sets, sets-eq, length-sets, take-append-seam}
+use mathlib.Core.List.{List, _++_}
+use mathlib.Core.Path.{_≡_, refl, sym, ap, ap₂, _∙_}
+use native.Mathlib.Omega.{arith}
 
 -- the file stands at the start of what it was put into
 pub made-front : (l file : List ℕ) → length file ≤ length l → take (length file) (sets l 0 file) ≡ file
 made-front l file h =
     ap (take (length file)) (sets-eq file l 0 (omega arith)) ∙ take-append-seam file (drop (0 + length file) l)
-
--- a file put at the start of the part of an area that starts at a place
-pub area-put : (old file : List ℕ) (place : ℕ) → place ≤ length old → length file ≤ length old - place
-    → take place old ++ (sets (take (length old - place) (drop place old)) 0 file ++ drop (length old - place) (drop place old)) ≡ areaWith Fine file place old
-unfolding areaWith
-area-put old file place h l =
-    let d : List ℕ = drop place old in
-    let n : length d ≡ length old - place = length-drop place old in
-    let all : take (length old - place) d ≡ d = take-all (length old - place) d (omega arith) in
-    let none : drop (length old - place) d ≡ [] = drop-of-length-le d {i = length old - place} (omega arith) in
-    let zero-length : 0 + length file ≡ length file = omega arith in
-    let put : sets d 0 file ≡ file ++ drop (place + length file) old =
-    sets-eq file d 0 (omega arith) ∙ ap (λ (k : ℕ). file ++ drop k d) zero-length ∙ ap (λ (x : List ℕ). file ++ x) (drop-drop (length file) place old) in
-    rw (all, none, append-nil, put)
 
 -- what is known of the array that a file was made in: its first bytes are the file
 pub record Held (file : List ℕ) (size : ℕ) (array : List ℕ) : Type 0 where

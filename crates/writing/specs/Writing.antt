@@ -5,8 +5,8 @@ use lib.ListN.{length}
 use Rattle.park.specs.declared.answer.Verdict.{Verdict}
 use Rattle.park.specs.declared.answer.Verdict.the-variants.{Fine, Refused}
 use Rattle.park.specs.Reading.{verdictOf, _then_}
-use Rattle.writing.specs.declared.Written as written
-use Rattle.writing.specs.Area.{roomFor}
+use Rattle.answers.specs.declared.Written as written
+use Rattle.area.specs.Area.{roomFor}
 
 -- "the refusal that Check gives the file they would make .. 9 comes after"
 unfoldable pub writeVerdict : List ℕ → ℕ → ℕ → Verdict

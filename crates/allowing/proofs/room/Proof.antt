@@ -1,7 +1,7 @@
 -- The two tests are the definition's.
 use borrow.Author.Tests.{le-leb, lt-leb}
 use Rattle.park.specs.Reading.{unless, _then_}
-use Rattle.writing.specs.Area.{roomFor}
+use Rattle.area.specs.Area.{roomFor}
 use Rattle.allowing.proofs.room.Statement.{statement}
 use Rattle.allowing.proofs.room.Tie as tie
 

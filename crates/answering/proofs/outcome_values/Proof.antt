@@ -1,6 +1,6 @@
 -- Case by case, the numbers are those of the definition.
 use mathlib.Core.Path.{sym, ap, _∙_}
-use Rattle.chandvreksh.specs.Values.{outcomeValues}
+use Rattle.answers.specs.Values.{outcomeValues}
 use borrow.Author.Needs.{needs}
 use Rattle.answering.proofs.outcome_values.Statement.{statement}
 use Rattle.answering.proofs.outcome_values.Tie as tie
@@ -9,7 +9,7 @@ enum-known-outcome : tie.Need-enum-known-outcome
 enum-known-outcome c = search needs
 
 values-requires : tie.Need-values-requires
-values-requires c κs = search needs
+values-requires c κs = tt
 
 enum-known-outcome-2 : tie.Need-enum-known-outcome-2
 enum-known-outcome-2 c = search needs
@@ -18,13 +18,13 @@ cast-values : tie.Need-cast-values
 cast-values c = search needs
 
 values-requires-2 : tie.Need-values-requires-2
-values-requires-2 c κs = search needs
+values-requires-2 c κs = tt
 
 enum-told : tie.Need-enum-told
 enum-told c = search needs
 
 values-requires-3 : tie.Need-values-requires-3
-values-requires-3 c κs = search needs
+values-requires-3 c κs = tt
 
 returns : tie.Need-returns
 returns c = c .values .ensures ∙ sym (ap (outcomeValues _) (c .before .before .outcome .given .1))

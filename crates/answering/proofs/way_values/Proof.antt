@@ -1,6 +1,6 @@
 -- Case by case, the numbers are those of the definition.
 use mathlib.Core.Path.{sym, ap, _∙_}
-use Rattle.chandvreksh.specs.Values.{wayValues}
+use Rattle.answers.specs.Values.{wayValues}
 use borrow.Author.Needs.{needs}
 use Rattle.answering.proofs.way_values.Statement.{statement}
 use Rattle.answering.proofs.way_values.Tie as tie
@@ -9,13 +9,13 @@ enum-known-found : tie.Need-enum-known-found
 enum-known-found c = search needs
 
 refusal-values-requires : tie.Need-refusal-values-requires
-refusal-values-requires c κs = search needs
+refusal-values-requires c κs = tt
 
 enum-known-found-2 : tie.Need-enum-known-found-2
 enum-known-found-2 c = search needs
 
 outcome-values-requires : tie.Need-outcome-values-requires
-outcome-values-requires c κs = search needs
+outcome-values-requires c κs = tt
 
 returns : tie.Need-returns
 returns c = c .refusal-values .ensures ∙ sym (ap wayValues (c .before .before .found .given .1))

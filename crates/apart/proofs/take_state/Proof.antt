@@ -5,7 +5,7 @@ use Rattle.apart.proofs.take_state.Statement.{statement}
 use Rattle.apart.proofs.take_state.Tie as tie
 
 wide-requires : tie.Need-wide-requires
-wide-requires c κs = search needs
+wide-requires c κs = tt
 
 mul-length : tie.Need-mul-length
 mul-length c = search needs
@@ -14,19 +14,19 @@ add-column32 : tie.Need-add-column32
 add-column32 c = search needs
 
 column32-requires : tie.Need-column32-requires
-column32-requires c κs = search needs
+column32-requires c κs = tt
 
 add-column16 : tie.Need-add-column16
 add-column16 c = search needs
 
 column16-requires : tie.Need-column16-requires
-column16-requires c κs = search needs
+column16-requires c κs = tt
 
 add-column8 : tie.Need-add-column8
 add-column8 c = search needs
 
 column8-requires : tie.Need-column8-requires
-column8-requires c κs = search needs
+column8-requires c κs = tt
 
 same-length : tie.Need-same-length
 same-length c = search needs

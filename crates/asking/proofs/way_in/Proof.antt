@@ -15,10 +15,10 @@ nodes-fit : (c : tie.Start) (x : ℕ) → x ≡ nodesIn (c .args .file .now) →
 nodes-fit c x e = nodes-room (c .args .file .now) x (c .pre) e
 
 number-at-requires : tie.Need-number-at-requires
-number-at-requires c κs = search needs
+number-at-requires c κs = tt
 
 number-at-requires-2 : tie.Need-number-at-requires-2
-number-at-requires-2 c κs = search needs
+number-at-requires-2 c κs = tt
 
 array-borrow-prefix-lows : tie.Need-array-borrow-prefix-lows
 array-borrow-prefix-lows c = links-fit (c .before .before .before) (c .number-at2 .result) (c .number-at2 .ensures .0)

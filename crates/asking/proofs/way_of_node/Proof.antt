@@ -7,7 +7,7 @@ use Rattle.asking.proofs.way_of_node.Statement.{statement}
 use Rattle.asking.proofs.way_of_node.Tie as tie
 
 verdict-requires : tie.Need-verdict-requires
-verdict-requires c κs = search needs
+verdict-requires c κs = tt
 
 enum-known-found : tie.Need-enum-known-found
 enum-known-found c = search needs
@@ -27,7 +27,7 @@ returns-2 c =
     way-no-node (a .file .now) (a .node) (sym (d .verdict .ensures) ∙ c .before .enum-told .given .1) (c .if1 .taken)
 
 big16-requires : tie.Need-big16-requires
-big16-requires c κs = search needs
+big16-requires c κs = tt
 
 returns-3 : tie.Need-returns-3
 returns-3 c =

@@ -7,25 +7,25 @@ use Rattle.asking.proofs.way_over.Statement.{statement}
 use Rattle.asking.proofs.way_over.Tie as tie
 
 column16-requires : tie.Need-column16-requires
-column16-requires c κs = search needs
+column16-requires c κs = tt
 
 column16-requires-2 : tie.Need-column16-requires-2
-column16-requires-2 c κs = search needs
+column16-requires-2 c κs = tt
 
 number-at-requires : tie.Need-number-at-requires
-number-at-requires c κs = search needs
+number-at-requires c κs = tt
 
 add-column16 : tie.Need-add-column16
 add-column16 c = search needs
 
 column16-requires-3 : tie.Need-column16-requires-3
-column16-requires-3 c κs = search needs
+column16-requires-3 c κs = tt
 
 big16-requires : tie.Need-big16-requires
-big16-requires c κs = search needs
+big16-requires c κs = tt
 
 way-of-requires : tie.Need-way-of-requires
-way-of-requires c κs = search needs
+way-of-requires c κs = tt
 
 same-length : tie.Need-same-length
 same-length c = search needs

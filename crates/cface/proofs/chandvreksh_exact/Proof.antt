@@ -4,10 +4,10 @@ use Rattle.cface.proofs.chandvreksh_exact.Statement.{statement}
 use Rattle.cface.proofs.chandvreksh_exact.Tie as tie
 
 exact-file-requires : tie.Need-exact-file-requires
-exact-file-requires c κs = search needs
+exact-file-requires c κs = tt
 
 exact-values-requires : tie.Need-exact-values-requires
-exact-values-requires c κs = search needs
+exact-values-requires c κs = tt
 
 same-length : tie.Need-same-length
 same-length c = search needs

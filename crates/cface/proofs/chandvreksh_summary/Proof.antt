@@ -1,15 +1,14 @@
 -- `cface::chandvreksh_summary` meets its contract: what the call answers is told in numbers.
 use mathlib.Core.Path.{ap, _∙_}
-use Rattle.chandvreksh.specs.Values.{summaryValues}
-use borrow.Author.Needs.{needs}
+use Rattle.answers.specs.Values.{summaryValues}
 use Rattle.cface.proofs.chandvreksh_summary.Statement.{statement}
 use Rattle.cface.proofs.chandvreksh_summary.Tie as tie
 
 summary-requires : tie.Need-summary-requires
-summary-requires c κs = search needs
+summary-requires c κs = tt
 
 summary-values-requires : tie.Need-summary-values-requires
-summary-values-requires c κs = search needs
+summary-values-requires c κs = tt
 
 returns : tie.Need-returns
 returns c = c .summary-values .ensures ∙ ap summaryValues (c .before .summary .ensures)

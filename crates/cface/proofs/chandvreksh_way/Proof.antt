@@ -1,15 +1,14 @@
 -- `cface::chandvreksh_way` meets its contract: what the call answers is told in numbers.
 use mathlib.Core.Path.{ap, _∙_}
-use Rattle.chandvreksh.specs.Values.{wayValues}
-use borrow.Author.Needs.{needs}
+use Rattle.answers.specs.Values.{wayValues}
 use Rattle.cface.proofs.chandvreksh_way.Statement.{statement}
 use Rattle.cface.proofs.chandvreksh_way.Tie as tie
 
 way-of-node-requires : tie.Need-way-of-node-requires
-way-of-node-requires c κs = search needs
+way-of-node-requires c κs = tt
 
 way-values-requires : tie.Need-way-values-requires
-way-values-requires c κs = search needs
+way-values-requires c κs = tt
 
 returns : tie.Need-returns
 returns c = c .way-values .ensures ∙ ap wayValues (c .before .way-of-node .ensures)

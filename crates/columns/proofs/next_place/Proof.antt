@@ -8,7 +8,7 @@ returns : tie.Need-returns
 returns c = simp (le-leb _ _ (c .if1 .taken))
 
 wide8-requires : tie.Need-wide8-requires
-wide8-requires c κs = search needs
+wide8-requires c κs = tt
 
 add-result : tie.Need-add-result
 add-result c = search needs

@@ -30,7 +30,7 @@ add-byte64 : tie.Need-add-byte64 Inv-loop μ-loop
 add-byte64 c = search needs
 
 byte64-requires : tie.Need-byte64-requires Inv-loop μ-loop
-byte64-requires c κs = search needs
+byte64-requires c κs = tt
 
 mul-x : tie.Need-mul-x Inv-loop μ-loop
 mul-x c =

@@ -6,10 +6,10 @@ use Rattle.exact.proofs.exact_table.Statement.{statement}
 use Rattle.exact.proofs.exact_table.Tie as tie
 
 both-requires : tie.Need-both-requires
-both-requires c κs = search needs
+both-requires c κs = tt
 
 find-dists-requires : tie.Need-find-dists-requires
-find-dists-requires c κs = search needs
+find-dists-requires c κs = tt
 
 find-parents-requires : tie.Need-find-parents-requires
 find-parents-requires c κs =
@@ -18,7 +18,7 @@ find-parents-requires c κs =
     links-even (length (a .lows .now)) (length (a .highs .now)) (length (a .costs .now)) (length (a .dists .now)) _ (dists .find-dists .ensures .0) (c .before .before .if2 .taken)
 
 find-marks-requires : tie.Need-find-marks-requires
-find-marks-requires c κs = search needs
+find-marks-requires c κs = tt
 
 same-length : tie.Need-same-length
 same-length c = search needs

@@ -25,7 +25,7 @@ add-parent-by : tie.Need-add-parent-by Inv-loop μ-loop
 add-parent-by c = search needs
 
 parent-by-requires : tie.Need-parent-by-requires Inv-loop μ-loop
-parent-by-requires c κs = search needs
+parent-by-requires c κs = tt
 
 mul-parents : tie.Need-mul-parents Inv-loop μ-loop
 mul-parents c = search needs

@@ -7,7 +7,7 @@ use Rattle.exacting.proofs.exact_file.Statement.{statement}
 use Rattle.exacting.proofs.exact_file.Tie as tie
 
 verdict-requires : tie.Need-verdict-requires
-verdict-requires c κs = search needs
+verdict-requires c κs = tt
 
 enum-known-found : tie.Need-enum-known-found
 enum-known-found c = search needs

@@ -1,6 +1,6 @@
 -- The slices hold the columns of the file, so the table that is found in them is the exact table of the file's park.
 use mathlib.Core.Path.{refl, sym}
-use Rattle.apart.proofs.LentLaws.{part, room-again, part-again}
+use Rattle.slices.proofs.PartLaws.{part, room-again, part-again}
 use Rattle.exacting.proofs.ExactingLaws.{found-apart}
 use Rattle.exacting.proofs.find_apart.Statement.{statement}
 use Rattle.exacting.proofs.find_apart.Tie as tie

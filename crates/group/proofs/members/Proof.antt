@@ -6,19 +6,19 @@ use Rattle.group.proofs.members.Statement.{statement}
 use Rattle.group.proofs.members.Tie as tie
 
 bits-at-requires : tie.Need-bits-at-requires
-bits-at-requires c κs = search needs
+bits-at-requires c κs = tt
 
 bits-at-requires-2 : tie.Need-bits-at-requires-2
-bits-at-requires-2 c κs = search needs
+bits-at-requires-2 c κs = tt
 
 add-low : tie.Need-add-low
 add-low c = search needs
 
 bits-at-requires-3 : tie.Need-bits-at-requires-3
-bits-at-requires-3 c κs = search needs
+bits-at-requires-3 c κs = tt
 
 bits-at-requires-4 : tie.Need-bits-at-requires-4
-bits-at-requires-4 c κs = search needs
+bits-at-requires-4 c κs = tt
 
 add-high : tie.Need-add-high
 add-high c = search needs

@@ -6,13 +6,13 @@ use Rattle.hearing.proofs.asks_for.Statement.{statement}
 use Rattle.hearing.proofs.asks_for.Tie as tie
 
 parent-at-requires : tie.Need-parent-at-requires
-parent-at-requires c κs = search needs
+parent-at-requires c κs = tt
 
 cast-if1 : tie.Need-cast-if1
 cast-if1 c = search needs
 
 mark-at-requires : tie.Need-mark-at-requires
-mark-at-requires c κs = search needs
+mark-at-requires c κs = tt
 
 returns : tie.Need-returns
 returns c =

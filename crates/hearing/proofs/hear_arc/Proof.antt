@@ -1,28 +1,28 @@
 -- What the callees ensure is put together: the offer, whether the neighbour asks, and the better of the two.
 use Prim.Native.Nat.{ℕ}
 use mathlib.Core.Path.{ap, ap₂, _∙_}
-use borrow.Author.Needs.{needs}
 use Rattle.measure.specs.Measure.{plus}
 use Rattle.rule.specs.Round.{through}
-use Rattle.hearing.specs.declared.Best.{Best}
-use Rattle.hearing.specs.Hear.{kept, withAsked, hear}
+use Rattle.keeping.specs.declared.Best.{Best}
+use Rattle.keeping.specs.Keep.{kept}
+use Rattle.hearing.specs.Hear.{withAsked, hear}
 use Rattle.hearing.proofs.hear_arc.Statement.{statement}
 use Rattle.hearing.proofs.hear_arc.Tie as tie
 
 dist-at-requires : tie.Need-dist-at-requires
-dist-at-requires c κs = search needs
+dist-at-requires c κs = tt
 
 plus-requires : tie.Need-plus-requires
-plus-requires c κs = search needs
+plus-requires c κs = tt
 
 asks-for-requires : tie.Need-asks-for-requires
-asks-for-requires c κs = search needs
+asks-for-requires c κs = tt
 
 with-asked-requires : tie.Need-with-asked-requires
-with-asked-requires c κs = search needs
+with-asked-requires c κs = tt
 
 keep-requires : tie.Need-keep-requires
-keep-requires c κs = search needs
+keep-requires c κs = tt
 
 returns : tie.Need-returns
 unfolding hear through

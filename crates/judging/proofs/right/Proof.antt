@@ -1,6 +1,6 @@
 -- The run tells whether the file is refused, and if not whether its table is exact.
 use mathlib.Core.Path.{sym, _∙_}
-use Rattle.judging.proofs.JudgeLaws.{by-refusal, by-yes, by-no}
+use Rattle.judging.proofs.JudgeLaws.{by-refusal, by-run}
 use borrow.Author.Needs.{needs}
 use Rattle.judging.proofs.right.Statement.{statement}
 use Rattle.judging.proofs.right.Tie as tie
@@ -9,7 +9,7 @@ slice-aggregate-run : tie.Need-slice-aggregate-run
 slice-aggregate-run c = search needs
 
 run-requires : tie.Need-run-requires
-run-requires c κs = search needs
+run-requires c κs = tt
 
 enum-known-refusal : tie.Need-enum-known-refusal
 enum-known-refusal c = search needs
@@ -22,7 +22,7 @@ returns c =
     let told = c .before .before in
     let d = told .before .before .before in
     let file = d .before .before in
-    by-yes (file .before .args .file .now) (λ i. file .shared-slice-known .given i .fits) _ _ (sym (told .quiet .given .1) ∙ d .run .ensures .0) (c .if1 .taken)
+    by-run (file .before .args .file .now) (λ i. file .shared-slice-known .given i .fits) _ _ _ (sym (told .quiet .given .1) ∙ d .run .ensures .0) (c .if1 .taken)
 
 returns-2 : tie.Need-returns-2
 returns-2 c =
@@ -35,7 +35,7 @@ returns-3 c =
     let told = c .before .before in
     let d = told .before .before .before in
     let file = d .before .before in
-    by-no (file .before .args .file .now) (λ i. file .shared-slice-known .given i .fits) _ _ (sym (told .quiet .given .1) ∙ d .run .ensures .0) (c .if1 .left)
+    by-run (file .before .args .file .now) (λ i. file .shared-slice-known .given i .fits) _ _ _ (sym (told .quiet .given .1) ∙ d .run .ensures .0) (c .if1 .left)
 
 pub right-spec : {M : Type 1} → statement M
 right-spec =

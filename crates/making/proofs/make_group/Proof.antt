@@ -30,7 +30,7 @@ add-put-bytes : tie.Need-add-put-bytes
 add-put-bytes c = search needs
 
 put-bytes-requires : tie.Need-put-bytes-requires
-put-bytes-requires c κs = search needs
+put-bytes-requires c κs = tt
 
 add-make-state : tie.Need-add-make-state
 add-make-state c = search needs

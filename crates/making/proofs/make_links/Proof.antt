@@ -7,7 +7,7 @@ use Rattle.making.proofs.make_links.Statement.{statement}
 use Rattle.making.proofs.make_links.Tie as tie
 
 links-size-requires : tie.Need-links-size-requires
-links-size-requires c κs = search needs
+links-size-requires c κs = tt
 
 put-head-requires : tie.Need-put-head-requires
 put-head-requires c κs = search needs

@@ -6,7 +6,7 @@ use Rattle.making.proofs.make_state.Statement.{statement}
 use Rattle.making.proofs.make_state.Tie as tie
 
 state-size-requires : tie.Need-state-size-requires
-state-size-requires c κs = search needs
+state-size-requires c κs = tt
 
 put-head-requires : tie.Need-put-head-requires
 put-head-requires c κs = search needs
@@ -28,7 +28,7 @@ add-put-cells : tie.Need-add-put-cells
 add-put-cells c = search needs
 
 put-cells-requires : tie.Need-put-cells-requires
-put-cells-requires c κs = search needs
+put-cells-requires c κs = tt
 
 add-result-2 : tie.Need-add-result-2
 add-result-2 c = search needs

@@ -2,19 +2,19 @@
 use mathlib.Core.List.{[], _∷_}
 use mathlib.Core.Path.{refl, _∙_}
 use Rattle.wire.specs.Big.{bytesOf}
-use Rattle.wire.proofs.BigLaws.{put-both}
+use Rattle.lent.proofs.StoreLaws.{put-both}
 use borrow.Author.Needs.{needs}
 use Rattle.making.proofs.put_head.Statement.{statement}
 use Rattle.making.proofs.put_head.Tie as tie
 
 put-byte-requires : tie.Need-put-byte-requires
-put-byte-requires c κs = search needs
+put-byte-requires c κs = tt
 
 add-put16 : tie.Need-add-put16
 add-put16 c = search needs
 
 put16-requires : tie.Need-put16-requires
-put16-requires c κs = search needs
+put16-requires c κs = tt
 
 same-length : tie.Need-same-length
 same-length c = c .before .before .put16 .kept .0 ∙ c .before .before .before .before .before .before .put-byte .kept .0

@@ -25,7 +25,7 @@ shared-slice-read-put16 : tie.Need-shared-slice-read-put16 Inv-loop μ-loop
 shared-slice-read-put16 c = search needs
 
 put16-requires : tie.Need-put16-requires Inv-loop μ-loop
-put16-requires c κs = search needs
+put16-requires c κs = tt
 
 add-at : tie.Need-add-at Inv-loop μ-loop
 add-at c = search needs

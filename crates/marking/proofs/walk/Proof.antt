@@ -24,10 +24,10 @@ returns : tie.Need-returns Inv-loop μ-loop
 returns c = walk-stop _ _ _ _ _ (c .before .before .loop .inv .1) (c .if1 .taken)
 
 set-mark-requires : tie.Need-set-mark-requires Inv-loop μ-loop
-set-mark-requires c κs = search needs
+set-mark-requires c κs = tt
 
 parent-at-requires : tie.Need-parent-at-requires Inv-loop μ-loop
-parent-at-requires c κs = search needs
+parent-at-requires c κs = tt
 
 cast-here : tie.Need-cast-here Inv-loop μ-loop
 cast-here c = search needs

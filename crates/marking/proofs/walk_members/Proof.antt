@@ -3,8 +3,8 @@ use borrow.Author.Needs.{needs}
 use Prim.Native.Nat.{_+_, _-_}
 use mathlib.Core.Path.{_≡_, refl}
 use lib.ListN.{length}
-use Rattle.slices.specs.Group.{memberIn}
-use Rattle.marking.proofs.LoopLaws.{falls}
+use Rattle.group.specs.Group.{memberIn}
+use Rattle.slices.proofs.PlaceLaws.{falls}
 use Rattle.marking.specs.Walk.{walkedFrom}
 use Rattle.marking.proofs.MarkLaws.{members-start, members-next, members-end}
 use Rattle.marking.proofs.walk_members.Statement.{statement}
@@ -25,7 +25,7 @@ add-walk-member : tie.Need-add-walk-member Inv-loop μ-loop
 add-walk-member c = search needs
 
 walk-member-requires : tie.Need-walk-member-requires Inv-loop μ-loop
-walk-member-requires c κs = search needs
+walk-member-requires c κs = tt
 
 add-at : tie.Need-add-at Inv-loop μ-loop
 add-at c = search needs

@@ -1,11 +1,10 @@
 -- `nearest::closer_of` meets its contract: a law for each way out.
-use borrow.Author.Needs.{needs}
 use Rattle.nearest.proofs.SearchLaws.{closer-settled, closer-first, closer-nearer, closer-farther}
 use Rattle.nearest.proofs.closer_of.Statement.{statement}
 use Rattle.nearest.proofs.closer_of.Tie as tie
 
 mark-at-requires : tie.Need-mark-at-requires
-mark-at-requires c κs = search needs
+mark-at-requires c κs = tt
 
 returns : tie.Need-returns
 returns c = closer-settled _ _ _ _ (c .before .mark-at .ensures) (c .if1 .taken)
@@ -14,10 +13,10 @@ returns-2 : tie.Need-returns-2
 returns-2 c = closer-first _ _ _ _ (c .before .before .mark-at .ensures) (c .before .if1 .left) (c .if2 .taken)
 
 dist-at-requires : tie.Need-dist-at-requires
-dist-at-requires c κs = search needs
+dist-at-requires c κs = tt
 
 dist-at-requires-2 : tie.Need-dist-at-requires-2
-dist-at-requires-2 c κs = search needs
+dist-at-requires-2 c κs = tt
 
 returns-3 : tie.Need-returns-3
 returns-3 c =

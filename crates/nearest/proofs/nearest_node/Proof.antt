@@ -3,7 +3,7 @@ use borrow.Author.Needs.{needs}
 use Prim.Native.Nat.{_+_, _-_}
 use mathlib.Core.Path.{_≡_}
 use lib.ListN.{length}
-use Rattle.marking.proofs.LoopLaws.{falls}
+use Rattle.slices.proofs.PlaceLaws.{falls}
 use Rattle.nearest.specs.Nearest.{nearestFrom, nearest}
 use Rattle.nearest.proofs.SearchLaws.{nearest-start, nearest-next, nearest-end}
 use Rattle.nearest.proofs.nearest_node.Statement.{statement}
@@ -23,7 +23,7 @@ add-closer-of : tie.Need-add-closer-of Inv-loop μ-loop
 add-closer-of c = search needs
 
 closer-of-requires : tie.Need-closer-of-requires Inv-loop μ-loop
-closer-of-requires c κs = search needs
+closer-of-requires c κs = tt
 
 add-at : tie.Need-add-at Inv-loop μ-loop
 add-at c = search needs

@@ -10,10 +10,10 @@ use Rattle.offering.proofs.find_dists.Statement.{statement}
 use Rattle.offering.proofs.find_dists.Tie as tie
 
 both-requires : tie.Need-both-requires
-both-requires c κs = search needs
+both-requires c κs = tt
 
 start-requires : tie.Need-start-requires
-start-requires c κs = search needs
+start-requires c κs = tt
 
 array-borrow-prefix-done : tie.Need-array-borrow-prefix-done
 array-borrow-prefix-done c = search needs

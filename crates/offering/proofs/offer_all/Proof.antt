@@ -7,7 +7,7 @@ use lib.ListN.{length, drop}
 use Rattle.measure.specs.Measure.{ceiling}
 use Rattle.slices.specs.Slices.{linksOf}
 use Rattle.slices.specs.Reading.{nodeAt}
-use Rattle.marking.proofs.LoopLaws.{falls}
+use Rattle.slices.proofs.PlaceLaws.{falls}
 use Rattle.offering.specs.Offering.{offeredAll}
 use Rattle.offering.proofs.TurnLaws.{offer-next, offer-end}
 use Rattle.offering.proofs.offer_all.Statement.{statement}
@@ -22,7 +22,7 @@ abbrev μ-loop : tie.MeasureT-loop
 μ-loop node lows highs costs dists₀ dist at₀ dists at = length lows - at
 
 dist-at-requires : tie.Need-dist-at-requires Inv-loop μ-loop
-dist-at-requires c κs = search needs
+dist-at-requires c κs = tt
 
 loop-holds : tie.Need-loop-holds Inv-loop μ-loop
 loop-holds c =
@@ -44,7 +44,7 @@ shared-slice-read-other-end-2 c =
     lt-of-lt-of-le (c .before .before .loop-test .taken) (le-of-eq (sym (pre .0)))
 
 other-end-requires : tie.Need-other-end-requires Inv-loop μ-loop
-other-end-requires c κs = search needs
+other-end-requires c κs = tt
 
 mul-offer-to : tie.Need-mul-offer-to Inv-loop μ-loop
 mul-offer-to c = search needs
@@ -55,7 +55,7 @@ shared-slice-read-offer-to c =
     lt-of-lt-of-le (test .loop-test .taken) (le-of-eq (sym (test .before .before .before .before .before .before .before .before .pre .1)))
 
 offer-to-requires : tie.Need-offer-to-requires Inv-loop μ-loop
-offer-to-requires c κs = search needs
+offer-to-requires c κs = tt
 
 add-at : tie.Need-add-at Inv-loop μ-loop
 add-at c = search needs

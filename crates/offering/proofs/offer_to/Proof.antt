@@ -14,7 +14,7 @@ returns-2 : tie.Need-returns-2
 returns-2 c = lower-out _ _ _ (c .before .if1 .left) (c .if2 .taken)
 
 plus-requires : tie.Need-plus-requires
-plus-requires c κs = search needs
+plus-requires c κs = tt
 
 mul-if3 : tie.Need-mul-if3
 mul-if3 c = search needs

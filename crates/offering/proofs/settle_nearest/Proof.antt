@@ -6,7 +6,7 @@ use Rattle.offering.proofs.settle_nearest.Statement.{statement}
 use Rattle.offering.proofs.settle_nearest.Tie as tie
 
 nearest-node-requires : tie.Need-nearest-node-requires
-nearest-node-requires c κs = search needs
+nearest-node-requires c κs = tt
 
 same-length : tie.Need-same-length
 same-length c = search needs
@@ -21,7 +21,7 @@ offer-all-requires : tie.Need-offer-all-requires
 offer-all-requires c κs = c .before .before .before .before .before .before .before .before .before .before .pre
 
 set-mark-requires : tie.Need-set-mark-requires
-set-mark-requires c κs = search needs
+set-mark-requires c κs = tt
 
 same-length-3 : tie.Need-same-length-3
 same-length-3 c = search needs

@@ -24,7 +24,7 @@ add-first : tie.Need-add-first Inv-loop μ-loop
 add-first c = search needs
 
 first-requires : tie.Need-first-requires Inv-loop μ-loop
-first-requires c κs = search needs
+first-requires c κs = tt
 
 mul-dists : tie.Need-mul-dists Inv-loop μ-loop
 mul-dists c = search needs

@@ -6,14 +6,14 @@ use native.Mathlib.Omega.{arith}
 use Rattle.park.specs.declared.answer.Verdict.{Verdict}
 use Rattle.park.specs.ParkFile.{stateBytes}
 use Rattle.slices.specs.Slices.{cellsOf}
-use Rattle.writing.specs.Area.{areaWith}
+use Rattle.area.specs.Area.{areaWith}
 use Rattle.placing.proofs.PlacingLaws.{room-fine, refused-stays, sets-in-area}
 use borrow.Author.Needs.{needs}
 use Rattle.placing.proofs.put_with_state.Statement.{statement}
 use Rattle.placing.proofs.put_with_state.Tie as tie
 
 put-file-requires : tie.Need-put-file-requires
-put-file-requires c κs = search needs
+put-file-requires c κs = tt
 
 enum-known-put : tie.Need-enum-known-put
 enum-known-put c = search needs
@@ -47,7 +47,7 @@ part-put-state-end c =
     omega (arith, room-fine _ _ _ (sym (put .ensures .0) ∙ c .enum-told .given .1), put .kept)
 
 put-state-requires : tie.Need-put-state-requires
-put-state-requires c κs = search needs
+put-state-requires c κs = tt
 
 same-length-2 : tie.Need-same-length-2
 same-length-2 c = search needs

@@ -2,8 +2,7 @@
 use Prim.Native.Nat.{_-_}
 use mathlib.Core.Path.{sym, _∙_}
 use lib.ListN.{length}
-use borrow.Author.Needs.{needs}
-use Rattle.round.proofs.ScanLaws.{place-next, fewer-left}
+use Rattle.slices.proofs.PlaceLaws.{place-next, falls}
 use Rattle.round.proofs.RoundLaws.{UpTo, up-start, up-next, up-all, round-written, round-refused}
 use Rattle.round.proofs.one_round.Statement.{statement}
 use Rattle.round.proofs.one_round.Tie as tie
@@ -21,7 +20,7 @@ abbrev entry-of : tie.At-loop Inv-loop μ-loop → tie.Start Inv-loop μ-loop
 entry-of c = c .before .before .before .before .before .before .before .before .before .before .before .before .before
 
 fitting-requires : tie.Need-fitting-requires Inv-loop μ-loop
-fitting-requires c κs = search needs
+fitting-requires c κs = tt
 
 loop-holds : tie.Need-loop-holds Inv-loop μ-loop
 loop-holds c =
@@ -40,7 +39,7 @@ add-at c =
 loop-less : tie.Need-loop-less Inv-loop μ-loop
 loop-less c =
     let test = c .before .before .before .before .before .before .before .before .before .before in
-    fewer-left (test .before .loop .at) _ (test .loop-test .taken)
+    falls _ (test .before .loop .at) (test .loop-test .taken)
 
 loop-again : tie.Need-loop-again Inv-loop μ-loop
 loop-again c =

@@ -1,6 +1,6 @@
 -- The slices hold the columns of the file, so the run over them is the run of the file's park from its state.
 use mathlib.Core.Path.{refl, sym, _∙_}
-use Rattle.apart.proofs.LentLaws.{part, room-again, part-again}
+use Rattle.slices.proofs.PartLaws.{part, room-again, part-again}
 use Rattle.running.proofs.RunFileLaws.{ran-apart}
 use Rattle.running.proofs.run_apart.Statement.{statement}
 use Rattle.running.proofs.run_apart.Tie as tie
@@ -68,41 +68,22 @@ slice-aggregate-run-3 c =
 slice-aggregate-run-4 : tie.Need-slice-aggregate-run-4
 slice-aggregate-run-4 c = sym (c .before .before .before .before .before .before .before .before .before .before .before .before .before .before .before .take-group .kept .1 .1 .0)
 
-array-borrow-prefix-next-dists : tie.Need-array-borrow-prefix-next-dists
-array-borrow-prefix-next-dists c = c .before .before .before .before .before .before .before .before .before .before .before .before .before .before .before .before .before .before .before .before .before .before .before .before .before .before .before .before .before .before .before .pre .1 .3
-
-slice-aggregate-run-5 : tie.Need-slice-aggregate-run-5
-slice-aggregate-run-5 c = part _ _ (c .before .before .before .before .before .before .before .before .before .before .before .before .before .before .before .before .before .before .before .before .before .before .before .before .before .before .before .before .before .before .before .before .pre .1 .3)
-
-array-borrow-prefix-next-parents : tie.Need-array-borrow-prefix-next-parents
-array-borrow-prefix-next-parents c = c .before .before .before .before .before .before .before .before .before .before .before .before .before .before .before .before .before .before .before .before .before .before .before .before .before .before .before .before .before .before .before .before .pre .1 .3
-
-slice-aggregate-run-6 : tie.Need-slice-aggregate-run-6
-slice-aggregate-run-6 c = part _ _ (c .before .before .before .before .before .before .before .before .before .before .before .before .before .before .before .before .before .before .before .before .before .before .before .before .before .before .before .before .before .before .before .before .before .pre .1 .3)
-
-array-borrow-prefix-next-marks : tie.Need-array-borrow-prefix-next-marks
-array-borrow-prefix-next-marks c = c .before .before .before .before .before .before .before .before .before .before .before .before .before .before .before .before .before .before .before .before .before .before .before .before .before .before .before .before .before .before .before .before .before .pre .1 .3
-
-slice-aggregate-run-7 : tie.Need-slice-aggregate-run-7
-slice-aggregate-run-7 c = part _ _ (c .before .before .before .before .before .before .before .before .before .before .before .before .before .before .before .before .before .before .before .before .before .before .before .before .before .before .before .before .before .before .before .before .before .before .pre .1 .3)
-
 run-requires : tie.Need-run-requires
 run-requires c κs = tt
 
 same-length : tie.Need-same-length
-same-length c = c .before .before .before .before .before .before .before .before .before .run .kept .1 .1 .1 .1 .1 .1 .0 ∙ c .before .before .before .before .before .before .before .before .before .before .before .before .before .before .before .before .before .before .before .before .before .before .before .before .before .before .take-state .kept .1 .1 .0
+same-length c = c .before .before .before .before .before .before .run .kept .1 .1 .1 .1 .1 .1 .0 ∙ c .before .before .before .before .before .before .before .before .before .before .before .before .before .before .before .before .before .before .before .before .take-state .kept .1 .1 .0
 
 same-length-2 : tie.Need-same-length-2
-same-length-2 c = c .before .before .before .before .before .before .before .before .before .run .kept .1 .1 .1 .1 .1 .1 .1 .0 ∙ c .before .before .before .before .before .before .before .before .before .before .before .before .before .before .before .before .before .before .before .before .before .before .before .before .before .before .take-state .kept .1 .1 .1 .0
+same-length-2 c = c .before .before .before .before .before .before .run .kept .1 .1 .1 .1 .1 .1 .1 .0 ∙ c .before .before .before .before .before .before .before .before .before .before .before .before .before .before .before .before .before .before .before .before .take-state .kept .1 .1 .1 .0
 
 same-length-3 : tie.Need-same-length-3
-same-length-3 c = c .before .before .before .before .before .before .before .before .before .run .kept .1 .1 .1 .1 .1 .1 .1 .1 .0 ∙ c .before .before .before .before .before .before .before .before .before .before .before .before .before .before .before .before .before .before .before .before .before .before .before .before .before .before .take-state .kept .1 .1 .1 .1 .0
+same-length-3 c = c .before .before .before .before .before .before .run .kept .1 .1 .1 .1 .1 .1 .1 .1 .0 ∙ c .before .before .before .before .before .before .before .before .before .before .before .before .before .before .before .before .before .before .before .before .take-state .kept .1 .1 .1 .1 .0
 
 returns : tie.Need-returns
 returns c =
-    let told = c .before .before .before .before .before .before .before .before .before in
-    let ran = told .run in
-    let d = told .before .before .before .before .before .before .before .before .before .before .before .before .before .before .before .before .before in
+    let ran = c .before .before .before .before .before .before .run in
+    let d = c .before .before .before .before .before .before .before .before .before .before .before .before .before .before .before .before .before .before .before .before in
     let state = d .take-state in
     let group = d .before .before .before .before .before .take-group in
     let back = d .before .before .before .before .before .before .before in
@@ -112,12 +93,11 @@ returns c =
     let start = e .before .before .before .before .before .before .before .before in
     let a = start .args in
     let known = start .pre .0 in
-    let size = start .pre .1 in
     ran-apart (a .file .now) (λ i. bytes i .fits) (known .0) (a .count .0) (a .root) (a .links) _ (links .last .1 .0) _ (links .last .1 .1 .0) _ (links .last .1 .1 .1 .0)
-    (group .last .1 .1 .0) (a .dists .now) (a .parents .now) (a .marks .now) (state .last .1 .1 .0) (state .last .1 .1 .1 .0) (state .last .1 .1 .1 .1 .0) _ _ _ (known .1) (known .2)
+    (group .last .1 .1 .0) (a .dists .now) (a .parents .now) (a .marks .now) (state .last .1 .1 .0) (state .last .1 .1 .1 .0) (state .last .1 .1 .1 .1 .0) (known .1) (known .2)
     (known .3, known .3, known .3) (back .before .before .lows2 .given, back .before .highs2 .given, back .costs2 .given) (links .ensures) (group .ensures)
-    (size .0, size .1, size .2) (state .kept .1 .1 .0, state .kept .1 .1 .1 .0, state .kept .1 .1 .1 .1 .0) (state .ensures) (size .3, size .3, size .3)
-    (ran .result) _ _ _ (ran .ensures .0) (ran .ensures .1 .0)
+    (start .pre .1) (state .kept .1 .1 .0, state .kept .1 .1 .1 .0, state .kept .1 .1 .1 .1 .0) (state .ensures)
+    (ran .result) _ _ _ (ran .ensures .0) (ran .ensures .1)
 
 pub run-apart-spec : {M : Type 1} → statement M
 run-apart-spec =
@@ -140,12 +120,6 @@ run-apart-spec =
     array-share-prefix-costs
     slice-aggregate-run-3
     slice-aggregate-run-4
-    array-borrow-prefix-next-dists
-    slice-aggregate-run-5
-    array-borrow-prefix-next-parents
-    slice-aggregate-run-6
-    array-borrow-prefix-next-marks
-    slice-aggregate-run-7
     run-requires
     same-length
     same-length-2

@@ -3,7 +3,7 @@
 use Prim.Native.Nat.{ℕ, _/_, _≤_}
 use mathlib.Core.Path.{sym, ap, subst, _∙_}
 use mathlib.Core.List.{List}
-use Rattle.apart.proofs.LentLaws.{part, room-again, part-again}
+use Rattle.slices.proofs.PartLaws.{part, room-again, part-again}
 use Rattle.park.proofs.ParkLaws.{nodes-room, links-room}
 use Rattle.running.proofs.RunFileLaws.{ends-refused, ends-done}
 use borrow.Author.Needs.{needs}

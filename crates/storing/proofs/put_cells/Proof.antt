@@ -3,7 +3,7 @@ use mathlib.Core.Path.{_≡_, refl, sym, _∙_, ap}
 use Prim.Native.Nat.{_-_}
 use lib.ListN.{length}
 use lib.Seq.{sets}
-use Rattle.wire.proofs.BigLaws.{sets-out}
+use Rattle.lent.proofs.StoreLaws.{sets-out}
 use Rattle.park.specs.ParkFile.{stateBytes}
 use Rattle.slices.specs.Slices.{cellsOf}
 use Rattle.storing.proofs.StateLaws.{rest, put-turn, no-dists, no-parents, no-marks}

@@ -5,7 +5,7 @@ use Rattle.storing.proofs.put_state.Statement.{statement}
 use Rattle.storing.proofs.put_state.Tie as tie
 
 wide-requires : tie.Need-wide-requires
-wide-requires c κs = search needs
+wide-requires c κs = tt
 
 mul-put-cells : tie.Need-mul-put-cells
 mul-put-cells c = search needs
@@ -14,7 +14,7 @@ add-put-cells : tie.Need-add-put-cells
 add-put-cells c = search needs
 
 put-cells-requires : tie.Need-put-cells-requires
-put-cells-requires c κs = search needs
+put-cells-requires c κs = tt
 
 same-length : tie.Need-same-length
 same-length c = search needs

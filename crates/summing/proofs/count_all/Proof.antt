@@ -1,17 +1,17 @@
 -- No more nodes are counted than there are marks, so both counts fit.
 use native.Mathlib.Omega.{arith}
 use lib.ListN.{length}
-use Rattle.group.specs.Count.{markSet, isServed, markedOf, servedOf}
+use Rattle.serving.specs.Serving.{markSet, isServed, markedOf, servedOf}
 use Rattle.summing.proofs.SummingLaws.{count-most}
 use borrow.Author.Needs.{needs}
 use Rattle.summing.proofs.count_all.Statement.{statement}
 use Rattle.summing.proofs.count_all.Tie as tie
 
 members-requires : tie.Need-members-requires
-members-requires c κs = search needs
+members-requires c κs = tt
 
 marked-requires : tie.Need-marked-requires
-marked-requires c κs = search needs
+marked-requires c κs = tt
 
 cast-marked : tie.Need-cast-marked
 unfolding markedOf
@@ -20,7 +20,7 @@ cast-marked c =
     omega (arith, c .marked .ensures, count-most (markSet (a .marks .now)) 1 (length (a .marks .now)))
 
 served-requires : tie.Need-served-requires
-served-requires c κs = search needs
+served-requires c κs = tt
 
 cast-served : tie.Need-cast-served
 unfolding servedOf

@@ -12,7 +12,7 @@ room : (c : tie.Start) (x : ℕ) → x ≡ nodesIn (c .args .file .now) → x �
 room c x e = nodes-room (c .args .file .now) x (c .pre) e
 
 number-at-requires : tie.Need-number-at-requires
-number-at-requires c κs = search needs
+number-at-requires c κs = tt
 
 slice-aggregate-counts-over : tie.Need-slice-aggregate-counts-over
 slice-aggregate-counts-over c = search needs

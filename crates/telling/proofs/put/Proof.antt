@@ -11,7 +11,7 @@ returns : tie.Need-returns
 returns c = counts _ _ (search needs)
 
 put-bytes-requires : tie.Need-put-bytes-requires
-put-bytes-requires c κs = search needs
+put-bytes-requires c κs = tt
 
 add-result : tie.Need-add-result
 add-result c = search needs

@@ -15,7 +15,7 @@ abbrev μ-loop : tie.MeasureT-loop
 μ-loop page₀ at file nodes links first most end₀ done₀ page end done = most - done
 
 wide-requires : tie.Need-wide-requires Inv-loop μ-loop
-wide-requires c κs = search needs
+wide-requires c κs = tt
 
 mul-first : tie.Need-mul-first Inv-loop μ-loop
 mul-first c = search needs
@@ -24,7 +24,7 @@ add-first : tie.Need-add-first Inv-loop μ-loop
 add-first c = search needs
 
 wide-requires-2 : tie.Need-wide-requires-2 Inv-loop μ-loop
-wide-requires-2 c κs = search needs
+wide-requires-2 c κs = tt
 
 loop-holds : tie.Need-loop-holds Inv-loop μ-loop
 loop-holds c = search needs

@@ -8,7 +8,7 @@ use borrow.Fn.PlainCycle.{Measures, is, falls, and}
 use Rattle.way.proofs.follow.Reads as follow
 use Rattle.way.proofs.follow.Kinds as follow-kinds
 use Rattle.way.proofs.+follow.Lts-follow as follow-lts
-use Rattle.way.proofs.is_neighbour.Reads as is-neighbour-reads
+use Rattle.neighbours.proofs.is_neighbour.Reads as is-neighbour-reads
 use Rattle.way.proofs.parent.Reads as parent-reads
 use Rattle.way.proofs.+follow.{statement}
 use Rattle.way.proofs.+follow.Tie.{close}

@@ -5,7 +5,7 @@ use Rattle.way.proofs.way_of.Statement.{statement}
 use Rattle.way.proofs.way_of.Tie as tie
 
 most-requires : tie.Need-most-requires
-most-requires c κs = search needs
+most-requires c κs = tt
 
 follow-requires : tie.Need-follow-requires
 follow-requires c κs = search needs

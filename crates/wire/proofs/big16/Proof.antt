@@ -19,7 +19,7 @@ add-byte-at : tie.Need-add-byte-at
 add-byte-at c = search needs
 
 byte-at-requires : tie.Need-byte-at-requires
-byte-at-requires c κs = search needs
+byte-at-requires c κs = tt
 
 cast-low : tie.Need-cast-low
 cast-low c = search needs

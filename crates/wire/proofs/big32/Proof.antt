@@ -9,7 +9,7 @@ returns : tie.Need-returns
 returns c = sym (big-out 4 (c .before .before .args .s .now) (c .before .before .args .place) (c .if1 .taken))
 
 big16-requires : tie.Need-big16-requires
-big16-requires c κs = search needs
+big16-requires c κs = tt
 
 cast-high : tie.Need-cast-high
 cast-high c = search needs
@@ -18,7 +18,7 @@ add-big16 : tie.Need-add-big16
 add-big16 c = search needs
 
 big16-requires-2 : tie.Need-big16-requires-2
-big16-requires-2 c κs = search needs
+big16-requires-2 c κs = tt
 
 cast-low : tie.Need-cast-low
 cast-low c = search needs

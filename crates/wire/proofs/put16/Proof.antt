@@ -2,7 +2,8 @@
 use lib.ListN.{length-set}
 use Rattle.wire.specs.Big.{bytesOf}
 use mathlib.Core.Path.{refl, sym, _∙_}
-use Rattle.wire.proofs.BigLaws.{sets-out, put-two}
+use Rattle.lent.proofs.StoreLaws.{sets-out}
+use Rattle.wire.proofs.BigLaws.{put-two}
 use borrow.Author.Needs.{needs}
 use Rattle.wire.proofs.put16.Statement.{statement}
 use Rattle.wire.proofs.put16.Tie as tie
@@ -25,7 +26,7 @@ cast-put-byte : tie.Need-cast-put-byte
 cast-put-byte c = search needs
 
 put-byte-requires : tie.Need-put-byte-requires
-put-byte-requires c κs = search needs
+put-byte-requires c κs = tt
 
 same-length : tie.Need-same-length
 same-length c =

@@ -1,7 +1,8 @@
 -- Two stores of a half are one store of the four bytes.
 use Rattle.wire.specs.Big.{bytesOf}
 use mathlib.Core.Path.{sym, _∙_}
-use Rattle.wire.proofs.BigLaws.{sets-out, put-four}
+use Rattle.lent.proofs.StoreLaws.{sets-out}
+use Rattle.wire.proofs.BigLaws.{put-four}
 use borrow.Author.Needs.{needs}
 use Rattle.wire.proofs.put32.Statement.{statement}
 use Rattle.wire.proofs.put32.Tie as tie
@@ -15,7 +16,7 @@ cast-put16 : tie.Need-cast-put16
 cast-put16 c = search needs
 
 put16-requires : tie.Need-put16-requires
-put16-requires c κs = search needs
+put16-requires c κs = tt
 
 add-put16 : tie.Need-add-put16
 add-put16 c = search needs
@@ -24,7 +25,7 @@ cast-put16-2 : tie.Need-cast-put16-2
 cast-put16-2 c = search needs
 
 put16-requires-2 : tie.Need-put16-requires-2
-put16-requires-2 c κs = search needs
+put16-requires-2 c κs = tt
 
 same-length : tie.Need-same-length
 same-length c = c .before .before .put162 .kept .0 ∙ c .before .before .before .before .before .before .put16 .kept .0

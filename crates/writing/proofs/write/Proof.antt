@@ -21,7 +21,7 @@ slice-aggregate-make : tie.Need-slice-aggregate-make
 slice-aggregate-make c = search needs
 
 make-requires : tie.Need-make-requires
-make-requires c κs = search needs
+make-requires c κs = tt
 
 array-share-prefix-made : tie.Need-array-share-prefix-made
 array-share-prefix-made c = made (c .before) .room
@@ -30,7 +30,7 @@ slice-aggregate-verdict : tie.Need-slice-aggregate-verdict
 slice-aggregate-verdict c = made (c .before .before) .count
 
 verdict-requires : tie.Need-verdict-requires
-verdict-requires c κs = search needs
+verdict-requires c κs = tt
 
 enum-known-found : tie.Need-enum-known-found
 enum-known-found c = search needs
@@ -51,7 +51,7 @@ slice-aggregate-put-file : tie.Need-slice-aggregate-put-file
 slice-aggregate-put-file c = made (c .before .before .before .before .before .before) .count
 
 put-file-requires : tie.Need-put-file-requires
-put-file-requires c κs = search needs
+put-file-requires c κs = tt
 
 enum-known-put : tie.Need-enum-known-put
 enum-known-put c = search needs

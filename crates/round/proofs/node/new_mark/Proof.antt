@@ -1,7 +1,6 @@
 -- Each way out is one case of "a member, or asked".
 use mathlib.Core.Path.{sym, _∙_}
-use borrow.Author.Needs.{needs}
-use Rattle.slices.specs.Group.{memberIn}
+use Rattle.group.specs.Group.{memberIn}
 use Rattle.round.proofs.ScanLaws.{mark-asked, mark-member, mark-none}
 use Rattle.round.proofs.node.new_mark.Statement.{statement}
 use Rattle.round.proofs.node.new_mark.Tie as tie
@@ -10,7 +9,7 @@ returns : tie.Need-returns
 returns c = mark-asked (memberIn 64 (c .before .before .args .words .now) (c .before .before .args .node)) _ (c .if1 .taken)
 
 is-member-requires : tie.Need-is-member-requires
-is-member-requires c κs = search needs
+is-member-requires c κs = tt
 
 returns-2 : tie.Need-returns-2
 returns-2 c = mark-member _ _ (sym (c .before .is-member .ensures) ∙ c .if2 .taken)

@@ -2,13 +2,14 @@
 use Prim.Native.Nat.{_-_}
 use mathlib.Core.Path.{_≡_, refl, sym, _∙_}
 use lib.ListN.{length, drop}
-use borrow.Author.Needs.{needs, scaled-fits}
+use borrow.Author.Needs.{scaled-fits}
 use Rattle.measure.specs.Measure.{ceiling}
 use Rattle.slices.specs.Slices.{linksOf}
 use Rattle.slices.specs.Reading.{nodeAt, linkAt}
-use Rattle.hearing.specs.Hear.{unheard}
+use Rattle.slices.proofs.PlaceLaws.{place-next, falls, below}
+use Rattle.keeping.specs.Keep.{unheard}
 use Rattle.round.specs.Scan.{passedAll}
-use Rattle.round.proofs.ScanLaws.{place-next, fewer-left, below, untouched, passed-next, passed-end}
+use Rattle.round.proofs.ScanLaws.{untouched, passed-next, passed-end}
 use Rattle.round.proofs.node.pass_links.Statement.{statement}
 use Rattle.round.proofs.node.pass_links.Tie as tie
 
@@ -45,7 +46,7 @@ shared-slice-read-high : tie.Need-shared-slice-read-high Inv-loop μ-loop
 shared-slice-read-high c = below (entry-of (c .before .before .before) .pre .0) (c .before .before .loop-test .taken)
 
 touches-requires : tie.Need-touches-requires Inv-loop μ-loop
-touches-requires c κs = search needs
+touches-requires c κs = tt
 
 mul-hear-link : tie.Need-mul-hear-link Inv-loop μ-loop
 mul-hear-link c =
@@ -59,12 +60,12 @@ shared-slice-read-hear-link c =
     below (entry-of (test .before) .pre .1) (test .loop-test .taken)
 
 hear-link-requires : tie.Need-hear-link-requires Inv-loop μ-loop
-hear-link-requires c κs = search needs
+hear-link-requires c κs = tt
 
 loop-less : tie.Need-loop-less Inv-loop μ-loop
 loop-less c =
     let test = c .before .before .before .before .before .before in
-    fewer-left (test .before .loop .at) _ (test .loop-test .taken)
+    falls _ (test .before .loop .at) (test .loop-test .taken)
 
 loop-again : tie.Need-loop-again Inv-loop μ-loop
 loop-again c =
@@ -74,7 +75,7 @@ loop-again c =
 loop-less-2 : tie.Need-loop-less-2 Inv-loop μ-loop
 loop-less-2 c =
     let test = c .before .before .before .before in
-    fewer-left (test .before .loop .at) _ (test .loop-test .taken)
+    falls _ (test .before .loop .at) (test .loop-test .taken)
 
 loop-again-2 : tie.Need-loop-again-2 Inv-loop μ-loop
 loop-again-2 c =

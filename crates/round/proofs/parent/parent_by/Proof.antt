@@ -7,7 +7,7 @@ use Rattle.round.proofs.parent.parent_by.Statement.{statement}
 use Rattle.round.proofs.parent.parent_by.Tie as tie
 
 both-requires : tie.Need-both-requires
-both-requires c κs = search needs
+both-requires c κs = tt
 
 returns : tie.Need-returns
 returns c =

@@ -38,7 +38,7 @@ part-count-end : tie.Need-part-count-end Inv-loop μ-loop
 part-count-end c = search needs
 
 count-requires : tie.Need-count-requires Inv-loop μ-loop
-count-requires c κs = search needs
+count-requires c κs = tt
 
 same-length : tie.Need-same-length Inv-loop μ-loop
 same-length c = search needs
