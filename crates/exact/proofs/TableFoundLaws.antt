@@ -14,14 +14,14 @@ use Rattle.rule.proofs.TableLaws.{length-numbered, getD-numbered}
 use Rattle.slices.specs.Slices.{linksOf, parkOf}
 use Rattle.group.specs.Group.{memberIn}
 use Rattle.slices.specs.Reading.{nodeAt}
-use Rattle.tables.specs.Fit.{even}
+use Rattle.tables.specs.Fit.{even, ready}
 use Rattle.slices.proofs.TestLaws.{both-true}
 use Rattle.tables.proofs.FitLaws.{even-true}
 use Rattle.round.specs.Parent.{parentBy}
 use Rattle.slices.proofs.SliceLaws.{over, over-next, over-all}
 use Rattle.offering.specs.Offering.{distsFrom, searchable}
 use Rattle.marking.specs.Walk.{walkedFrom, marksFrom}
-use Rattle.exact.specs.Found.{foundDists, parentsBy, foundParents, foundMarks, ready, Found}
+use Rattle.exact.specs.Found.{foundDists, parentsBy, foundParents, foundMarks, Found}
 
 pub even-is : (n a b : ℕ) → (a ≡ n) × (b ≡ n) → even n a b ≡ true
 even-is n a b e = rw (eq-eqb a n (e .0), eq-eqb b n (e .1))

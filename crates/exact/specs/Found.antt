@@ -1,15 +1,14 @@
 -- The table that is found without rounds: distances nearest first, then each node's parent, then marks along the ways.
 use Prim.Native.Nat.{ℕ}
 use mathlib.Core.Path.{_≡_}
-use mathlib.Core.Bool.{Bool, cond, _&&_}
+use mathlib.Core.Bool.{Bool, cond}
 use mathlib.Core.List.{List, map}
 use lib.ListN.{length}
-use lib.Dec.{leb}
 use Rattle.measure.specs.Measure.{ceiling}
 use Rattle.rule.specs.Round.{Link, Park, numbered}
 use Rattle.slices.specs.Slices.{parkOf}
 use Rattle.slices.specs.Reading.{nodeAt}
-use Rattle.tables.specs.Fit.{even}
+use Rattle.tables.specs.Fit.{ready}
 use Rattle.round.specs.Parent.{parentBy}
 use Rattle.offering.specs.Offering.{distsFrom}
 use Rattle.marking.specs.Walk.{marksFrom}
@@ -29,10 +28,6 @@ foundParents p = parentsBy (p .root) (p .links) (foundDists p) (p .nodes)
 -- and their marks
 unfoldable pub foundMarks : Park → List ℕ
 foundMarks p = marksFrom (p .member) (foundParents p)
-
--- Whether slices belong together: the parts of the links equally long, and the parts of the table too, of at most 256 nodes.
-abbrev pub ready : ℕ → ℕ → ℕ → ℕ → ℕ → ℕ → Bool
-ready lows highs costs dists parents marks = even lows highs costs && (even dists parents marks && leb dists 256)
 
 -- What the search answers and leaves in the three slices of the table: all found, or nothing written.
 pub record Found (r : Bool) (root : ℕ) (ls hs cs ws ds ps ms ds′ ps′ ms′ : List ℕ) : Type 0 where

@@ -8,7 +8,7 @@ use Rattle.slices.proofs.PartLaws.{again}
 use Rattle.area.specs.Area.{roomFor, areaWith}
 use Rattle.columns.specs.Columns.{column, little}
 use Rattle.exact.proofs.FoundLaws.{found-exact}
-use Rattle.exact.specs.Found.{ready, foundDists, foundParents, foundMarks, Found}
+use Rattle.exact.specs.Found.{foundDists, foundParents, foundMarks, Found}
 use Rattle.exacting.specs.Exacting.{exactVerdict, exactBy, Exacted}
 use Rattle.park.proofs.ParkLaws.{fine-ok}
 use Rattle.park.proofs.VerdictLaws.{then-fine}
@@ -23,7 +23,7 @@ use Rattle.rule.specs.Exact.{Exact}
 use Rattle.rule.specs.Round.{Cell}
 use Rattle.slices.specs.Slices.{cellsOf}
 use Rattle.wire.specs.Big.{Bytes, big}
-use borrow.Author.Tests.{eq-eqb, le-leb}
+use Rattle.tables.proofs.FitLaws.{true-ready}
 use lib.ListN.{length, take, drop}
 use lib.Seq.{sets}
 use mathlib.Core.Bool.{Bool, true, cond}
@@ -72,10 +72,6 @@ exact-one s old place b r r′ new new′ x y = (x .answer ∙ sym (y .answer), 
         x .written e (t .0) (t .1) ∙ sym (y .written e (t .0) (t .1))
     go (Refused v) e = x .kept v e ∙ sym (y .kept v e)
 
--- lengths that belong together
-is-ready : (ls hs cs ds ps ms : ℕ) → hs ≡ ls → cs ≡ ls → ps ≡ ds → ms ≡ ds → ds ≤ 256 → ready ls hs cs ds ps ms ≡ true
-is-ready ls hs cs ds ps ms hl cl pd md few = simp (eq-eqb _ _ hl, eq-eqb _ _ cl, eq-eqb _ _ pd, eq-eqb _ _ md, le-leb _ _ few)
-
 -- the slices that a file is taken apart into, first parts of arrays that are lent again, hold its park: what is found in them is its exact table
 pub found-apart : (s : List ℕ) → Bytes s → verdictOf s ≡ Fine → (root l : ℕ) (zl ls zh hs zc cs ws d p m : List ℕ) → root ≡ rootIn s → l ≡ linkCount s
     → (l ≤ length zl) × (l ≤ length zh) × (l ≤ length zc)
@@ -88,7 +84,7 @@ pub found-apart : (s : List ℕ) → Bytes s → verdictOf s ≡ Fine → (root 
 found-apart s b fine root l zl ls zh hs zc cs ws d p m er el few kept links group size t ds ps ms found =
     let park = park-again s b fine l el zl ls zh hs zc cs few kept links _ root ws (size .0) er group in
     let even = links-again s b fine l el zl ls zh hs zc cs few kept links in
-    let yes : t ≡ true = found .answer ∙ is-ready _ _ _ _ _ _ (even .0) (even .1) (size .1 ∙ sym (size .0)) (size .2 ∙ sym (size .0)) (size .3) in
+    let yes : t ≡ true = found .answer ∙ true-ready _ _ _ _ _ _ even (size .1 ∙ sym (size .0), size .2 ∙ sym (size .0)) (size .3) in
     let dists = found .dists ∙ (λ i. cond (yes i) (foundDists (park i)) d) in
     let parents = found .parents ∙ (λ i. cond (yes i) (foundParents (park i)) p) in
     let marks = found .marks ∙ (λ i. cond (yes i) (foundMarks (park i)) m) in

@@ -1,15 +1,13 @@
 -- Whether there is room to run, test by test, what it gives where there is, and what a run answers by it.
-use Prim.Native.Nat.{ℕ, _≤_}
+use Prim.Native.Nat.{ℕ}
 use mathlib.Core.Path.{_≡_, sym, ap, ap₂, _∙_}
 use mathlib.Core.Bool.{Bool, true, false, not, _&&_}
 use mathlib.Core.List.{List}
-use lib.ListN.{length}
 use lib.Dec.{leb}
-use borrow.Author.Tests.{eq-eqb, leb-true, le-leb, not-true}
-use Rattle.slices.proofs.TestLaws.{both-true}
-use Rattle.tables.specs.Fit.{even, Holds, Written}
-use Rattle.tables.proofs.FitLaws.{even-true, written, unwritten}
-use Rattle.run.specs.Run.{Outcome, runnable, ranOf}
+use borrow.Author.Tests.{not-true}
+use Rattle.tables.specs.Fit.{even, Holds, Written, ready}
+use Rattle.tables.proofs.FitLaws.{written, unwritten}
+use Rattle.run.specs.Run.{Outcome, ranOf}
 use Rattle.run.specs.declared.Ran.{Ran}
 
 module _ (links : Bool) (n parents marks : ℕ) where
@@ -25,24 +23,8 @@ module _ (links : Bool) (n parents marks : ℕ) where
 
 -- the test of the links and the rest together
 pub room-told : (lows highs costs n parents marks : ℕ) {links b : Bool} → links ≡ even lows highs costs → b ≡ (links && (even n parents marks && leb n 256))
-    → b ≡ runnable lows highs costs n parents marks
+    → b ≡ ready lows highs costs n parents marks
 room-told lows highs costs n parents marks e f = f ∙ ap (λ (x : Bool). x && (even n parents marks && leb n 256)) e
-
--- what it says of the lengths of the links, of those of the table and of its nodes; and the other way round
-pub room-true : (ls hs cs ds ps ms : List ℕ) → runnable (length ls) (length hs) (length cs) (length ds) (length ps) (length ms) ≡ true
-    → ((length hs ≡ length ls) × (length cs ≡ length ls)) × ((length ps ≡ length ds) × (length ms ≡ length ds)) × (length ds ≤ 256)
-room-true ls hs cs ds ps ms e =
-    let links = even (length ls) (length hs) (length cs) in
-    let table = even (length ds) (length ps) (length ms) in
-    let few = leb (length ds) 256 in
-    let x = both-true links (table && few) e in
-    let y = both-true table few (x .1) in
-    (even-true (length ls) (length hs) (length cs) (x .0), even-true (length ds) (length ps) (length ms) (y .0), leb-true (length ds) 256 (y .1))
-
-pub true-room : (lows highs costs n parents marks : ℕ) → (highs ≡ lows) × (costs ≡ lows) → (parents ≡ n) × (marks ≡ n) → n ≤ 256
-    → runnable lows highs costs n parents marks ≡ true
-true-room lows highs costs n parents marks links table few =
-    rw (eq-eqb highs lows (links .0), eq-eqb costs lows (links .1), eq-eqb parents n (table .0), eq-eqb marks n (table .1)) (le-leb n 256 few)
 
 -- what a run answers and leaves, with room and without
 module _ (fit : Bool) (o : Outcome) (ds ps ms : List ℕ) where

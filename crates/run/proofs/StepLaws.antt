@@ -12,16 +12,16 @@ use borrow.Author.Tests.{eqb-true, eq-eqb}
 use Rattle.rule.specs.Round.{Net, Cell, round, netOf}
 use Rattle.slices.specs.Slices.{cellsOf, parkOf}
 use Rattle.slices.proofs.PartLaws.{room-again, again}
-use Rattle.tables.specs.Fit.{fits, Together, Holds, Written}
-use Rattle.tables.proofs.FitLaws.{true-fit, SameLengths}
+use Rattle.tables.specs.Fit.{fits, Together, Holds, Written, ready}
+use Rattle.tables.proofs.FitLaws.{true-fit, ready-true, SameLengths}
 use Rattle.round.specs.Table.{roundOf}
 use Rattle.slices.specs.Slices.{distsOf, parentsOf, marksOf}
 use Rattle.comparing.specs.Same.{sameSlices, sameTable}
 use Rattle.run.specs.declared.Ran.{Ran}
-use Rattle.run.specs.Run.{quiet, Outcome, runnable, runOf, runFrom, ranOf}
+use Rattle.run.specs.Run.{quiet, Outcome, runOf, runFrom, ranOf}
 use Rattle.slices.proofs.TableLaws.{cells-of, Slices, slices}
 use Rattle.round.proofs.RoundLaws.{round-length}
-use Rattle.run.proofs.RoomLaws.{room-true, with-room}
+use Rattle.run.proofs.RoomLaws.{with-room}
 
 -- slices that belong together hold what was written
 pub held : (fit : Bool) (t : List Cell) (ds ps ms ds′ ps′ ms′ : List ℕ) → fit ≡ true → Written fit t ds ps ms ds′ ps′ ms′ → Holds t ds′ ps′ ms′
@@ -149,12 +149,12 @@ starts root ls hs cs ws ds ps ms nd np nm count room =
     record { table = record { dists = refl; parents = refl; marks = refl }; room = room; running = record { nodes = refl; counts = omega arith; run = refl } }
 
 module _ {root : ℕ} {ls hs cs ws ds₀ ps₀ ms₀ ds ps ms nd np nm : List ℕ} {count left done : ℕ} (s : Going root ls hs cs ws ds₀ ps₀ ms₀ ds ps ms nd np nm count left done)
-    (fit : runnable (length ls) (length hs) (length cs) (length ds₀) (length ps₀) (length ms₀) ≡ true) where
+    (fit : ready (length ls) (length hs) (length cs) (length ds₀) (length ps₀) (length ms₀) ≡ true) where
   abbrev n : ℕ
   n = length ds₀
 
   abbrev fit₀ : Bool
-  fit₀ = runnable (length ls) (length hs) (length cs) (length ds₀) (length ps₀) (length ms₀)
+  fit₀ = ready (length ls) (length hs) (length cs) (length ds₀) (length ps₀) (length ms₀)
 
   abbrev comes : Outcome
   comes = runFrom count 0 root ls hs cs ws ds₀ ps₀ ms₀
@@ -162,7 +162,7 @@ module _ {root : ℕ} {ls hs cs ws ds₀ ps₀ ms₀ ds ps ms nd np nm : List �
   -- the first n of the arrays belong together with the table
   together : Together ls hs cs ds ps ms (take n nd) (take n np) (take n nm)
   together =
-      let lengths = room-true ls hs cs ds₀ ps₀ ms₀ fit in
+      let lengths = ready-true (length ls) (length hs) (length cs) (length ds₀) (length ps₀) (length ms₀) fit in
       let nodes = sym (s .table .dists) in
       record {
         links = lengths .0;

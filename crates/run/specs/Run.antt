@@ -1,13 +1,11 @@
 -- A run of document 01: "do rounds until N are done or the next would change nothing. Answers the rounds done and whether it is quiet, that is
 -- whether one more round would leave every stored value as it is."
 use Prim.Native.Nat.{ℕ, zero, suc}
-use mathlib.Core.Bool.{Bool, true, false, _&&_}
+use mathlib.Core.Bool.{Bool, true, false}
 use mathlib.Core.List.{List}
 use lib.ListN.{length}
-use lib.Dec.{leb}
 use Rattle.rule.specs.Round.{Net, Cell, round, netOf}
 use Rattle.slices.specs.Slices.{cellsOf, parkOf}
-use Rattle.tables.specs.Fit.{even}
 use Rattle.comparing.specs.Same.{sameTable}
 use Rattle.run.specs.declared.Ran.{Ran}
 
@@ -31,11 +29,7 @@ runOf N n (suc left) done t =
 abbrev pub runFrom : ℕ → ℕ → ℕ → List ℕ → List ℕ → List ℕ → List ℕ → List ℕ → List ℕ → List ℕ → Outcome
 runFrom left done root ls hs cs ws ds ps ms = runOf (netOf (parkOf (length ds) root ls hs cs ws)) (length ds) left done (cellsOf ds ps ms)
 
--- whether there is room to run: the parts of the links equally long, those of the table too, and at most 256 nodes; lengths are in elements
-abbrev pub runnable : ℕ → ℕ → ℕ → ℕ → ℕ → ℕ → Bool
-runnable lows highs costs n parents marks = even lows highs costs && (even n parents marks && leb n 256)
-
--- the answer of a run: where there is no room to run no round is done
+-- the answer of a run: over slices that are no park's no round is done
 abbrev pub ranOf : Bool → Outcome → Ran
 ranOf true o = record { fit = true; rounds = record { 0 = o .rounds }; quiet = o .quiet }
 ranOf false o = record { fit = false; rounds = record { 0 = 0 }; quiet = false }

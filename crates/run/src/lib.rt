@@ -13,8 +13,8 @@ ghost use mathlib.Core.Path.{_≡_};
 ghost use mathlib.Core.Bool.{_&&_, _||_};
 ghost use lib.Dec.{eqb, leb};
 ghost use lib.ListN.{length};
-ghost use Rattle.tables.specs.Fit.{even, Written};
-ghost use Rattle.run.specs.Run.{runnable, runFrom, ranOf};
+ghost use Rattle.tables.specs.Fit.{even, Written, ready};
+ghost use Rattle.run.specs.Run.{runFrom, ranOf};
 
 // The most nodes of a park, in nodes.
 const NODES: usize = 256;
@@ -78,12 +78,12 @@ pub fn run(
     marks: &mut [u8],
 ) -> Ran
     ensures { λ r. ⌜ r ≡ ranOf
-        (runnable (length (now (lows .entry))) (length (now (highs .entry))) (length (now (costs .entry)))
+        (ready (length (now (lows .entry))) (length (now (highs .entry))) (length (now (costs .entry)))
         (length (now (dists .entry))) (length (now (parents .entry))) (length (now (marks .entry))))
         (runFrom (count .0) 0 root (now (lows .entry)) (now (highs .entry)) (now (costs .entry)) (now (words .entry))
         (now (dists .entry)) (now (parents .entry)) (now (marks .entry))) ⌝ }
     ensures { λ _. ⌜ Written
-        (runnable (length (now (lows .entry))) (length (now (highs .entry))) (length (now (costs .entry)))
+        (ready (length (now (lows .entry))) (length (now (highs .entry))) (length (now (costs .entry)))
         (length (now (dists .entry))) (length (now (parents .entry))) (length (now (marks .entry))))
         (runFrom (count .0) 0 root (now (lows .entry)) (now (highs .entry)) (now (costs .entry)) (now (words .entry))
         (now (dists .entry)) (now (parents .entry)) (now (marks .entry)) .table)

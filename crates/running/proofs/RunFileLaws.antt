@@ -14,16 +14,16 @@ use Rattle.park.specs.declared.answer.Verdict.{Verdict}
 use Rattle.placing.proofs.PlacingLaws.{state-file}
 use Rattle.refusals.specs.declared.Refusal.{Refusal}
 use Rattle.rule.specs.Round.{Cell, netOf}
-use Rattle.run.proofs.RoomLaws.{true-room}
 use Rattle.run.proofs.StepLaws.{held}
-use Rattle.run.specs.Run.{Outcome, runnable, runOf, runFrom, ranOf}
+use Rattle.run.specs.Run.{Outcome, runOf, runFrom, ranOf}
 use Rattle.run.specs.declared.Ran.{Ran}
 use Rattle.running.specs.Ends.{Ends}
 use Rattle.running.specs.Running.{outcomeOf, runVerdict, runFile, answerBy, runAnswer}
 use Rattle.slices.proofs.PartLaws.{part, again}
 use Rattle.slices.proofs.TableLaws.{cells-of}
 use Rattle.slices.specs.Slices.{cellsOf, parkOf}
-use Rattle.tables.specs.Fit.{Holds, Written}
+use Rattle.tables.proofs.FitLaws.{true-ready}
+use Rattle.tables.specs.Fit.{Holds, Written, ready}
 use Rattle.wire.specs.Big.{Bytes, big}
 use lib.ListN.{length, take, drop, length-map}
 use lib.Seq.{sets}
@@ -54,7 +54,7 @@ pub ran-apart : (s : List ℕ) → Bytes s → verdictOf s ≡ Fine → (N root 
     → let ls′ = take l (ls ++ drop l zl) in
     let hs′ = take l (hs ++ drop l zh) in
     let cs′ = take l (cs ++ drop l zc) in
-    let fit : Bool = runnable (length ls′) (length hs′) (length cs′) (length ds) (length ps) (length ms) in
+    let fit : Bool = ready (length ls′) (length hs′) (length cs′) (length ds) (length ps) (length ms) in
     let o : Outcome = runFrom N 0 root ls′ hs′ cs′ ws ds ps ms in
     (r : Ran) (ds′ ps′ ms′ : List ℕ) → r ≡ ranOf fit o → Written fit (o .table) ds ps ms ds′ ps′ ms′
     → (r ≡ ranOf true (outcomeOf (fileIn s) N)) × Holds (outcomeOf (fileIn s) N .table) ds′ ps′ ms′
@@ -62,7 +62,7 @@ ran-apart s b fine N root l zl ls zh hs zc cs ws d p m ds ps ms er el few kept l
     let long = same .0 ∙ size .0 in
     let park = park-again s b fine l el zl ls zh hs zc cs few kept links _ root ws long er group in
     ran-together _ _ _ _ _ _ _ _ _ _
-    (true-room _ _ _ _ _ _ (links-again s b fine l el zl ls zh hs zc cs few kept links) (same .1 ∙ size .1 ∙ sym long, same .2 ∙ size .2 ∙ sym long)
+    (true-ready _ _ _ _ _ _ (links-again s b fine l el zl ls zh hs zc cs few kept links) (same .1 ∙ size .1 ∙ sym long, same .2 ∙ size .2 ∙ sym long)
     (subst (λ (k : ℕ). k ≤ 256) (sym (same .0)) (size .3)))
     (run-slices s N root _ _ _ ws ds ps ms long park (state-taken s fine b l el _ _ _ ds ps ms (size .0, size .1, size .2) state))
     told left

@@ -1,14 +1,14 @@
 -- Whether slices belong together, test by test, and what it gives where they do.
-use Prim.Native.Nat.{ℕ}
+use Prim.Native.Nat.{ℕ, _≤_}
 use mathlib.Core.Path.{_≡_, refl}
 use mathlib.Core.Bool.{Bool, true, false, _&&_}
 use mathlib.Core.List.{List}
 use lib.ListN.{length}
-use lib.Dec.{eqb}
-use borrow.Author.Tests.{eqb-true, eq-eqb, ne-eqb}
+use lib.Dec.{eqb, leb}
+use borrow.Author.Tests.{eqb-true, eq-eqb, ne-eqb, leb-true, le-leb}
 use Rattle.rule.specs.Round.{Cell}
 use Rattle.slices.proofs.TestLaws.{both-true}
-use Rattle.tables.specs.Fit.{even, fits, Together, Holds, Written}
+use Rattle.tables.specs.Fit.{even, ready, fits, Together, Holds, Written}
 
 pub even-first : (n a b : ℕ) → a ≡ n → eqb b n ≡ even n a b
 even-first n a b e = rw (eq-eqb a n e)
@@ -23,6 +23,17 @@ even-true n a b e = let z = both-true (eqb a n) (eqb b n) e in (eqb-true a n (z 
 
 even-of : (n a b : ℕ) → a ≡ n → b ≡ n → even n a b ≡ true
 even-of n a b e f = rw (eq-eqb a n e) (eq-eqb b n f)
+
+module _ (lows highs costs n parents marks : ℕ) where
+  pub ready-true : ready lows highs costs n parents marks ≡ true → ((highs ≡ lows) × (costs ≡ lows)) × ((parents ≡ n) × (marks ≡ n)) × (n ≤ 256)
+  ready-true e =
+      let x = both-true (even lows highs costs) (even n parents marks && leb n 256) e in
+      let y = both-true (even n parents marks) (leb n 256) (x .1) in
+      (even-true lows highs costs (x .0), even-true n parents marks (y .0), leb-true n 256 (y .1))
+
+  pub true-ready : (highs ≡ lows) × (costs ≡ lows) → (parents ≡ n) × (marks ≡ n) → n ≤ 256 → ready lows highs costs n parents marks ≡ true
+  true-ready links table few =
+      rw (even-of lows highs costs (links .0) (links .1), even-of n parents marks (table .0) (table .1)) (le-leb n 256 few)
 
 module _ (ls hs cs ds ps ms ds′ ps′ ms′ : List ℕ) where
   pub fit-true : fits ls hs cs ds ps ms ds′ ps′ ms′ ≡ true → Together ls hs cs ds ps ms ds′ ps′ ms′

@@ -4,13 +4,17 @@ use mathlib.Core.Path.{_≡_}
 use mathlib.Core.Bool.{Bool, cond, _&&_}
 use mathlib.Core.List.{List}
 use lib.ListN.{length}
-use lib.Dec.{eqb}
+use lib.Dec.{eqb, leb}
 use Rattle.rule.specs.Round.{Cell}
 use Rattle.slices.specs.Slices.{distsOf, parentsOf, marksOf}
 
 -- whether two parts are as long as n
 abbrev pub even : ℕ → ℕ → ℕ → Bool
 even n a b = eqb a n && eqb b n
+
+-- whether slices are the links and the one table of a park: the parts of the links equally long, those of the table too, and at most 256 nodes
+abbrev pub ready : ℕ → ℕ → ℕ → ℕ → ℕ → ℕ → Bool
+ready lows highs costs n parents marks = even lows highs costs && (even n parents marks && leb n 256)
 
 -- Whether slices belong together: the higher ends and costs are as long as the lower ends; the parents and marks, and the three slices of the
 -- second table, as long as the distances.

@@ -9,8 +9,9 @@ use lib.ListN.{length, take, drop}
 use lib.Seq.{length-take-le}
 use borrow.Author.Tests.{not-false}
 use Rattle.slices.proofs.PartLaws.{part, room-again}
-use Rattle.run.specs.Run.{runnable}
-use Rattle.run.proofs.RoomLaws.{room-told, room-true, without-room}
+use Rattle.tables.specs.Fit.{ready}
+use Rattle.tables.proofs.FitLaws.{ready-true}
+use Rattle.run.proofs.RoomLaws.{room-told, without-room}
 use Rattle.run.proofs.StepLaws.{Going, starts, next-lengths, one-left, one-less, ran, goes}
 use Rattle.run.proofs.run.Statement.{statement}
 use Rattle.run.proofs.run.Tie as tie
@@ -41,7 +42,7 @@ has-room-requires c κs = tt
 -- the two tests together
 told-of : (c : tie.After-has-room Inv-loop μ-loop)
     → let a = c .before .before .before .before .before .before .before .before .before .args in
-    c .has-room .result ≡ runnable (length (a .lows .now)) (length (a .highs .now)) (length (a .costs .now)) (length (a .dists .now)) (length (a .parents .now)) (length (a .marks .now))
+    c .has-room .result ≡ ready (length (a .lows .now)) (length (a .highs .now)) (length (a .costs .now)) (length (a .dists .now)) (length (a .parents .now)) (length (a .marks .now))
 told-of c =
     let a = c .before .before .before .before .before .before .before .before .before .args in
     room-told (length (a .lows .now)) (length (a .highs .now)) (length (a .costs .now)) (length (a .dists .now)) (length (a .parents .now)) (length (a .marks .now))
@@ -50,7 +51,7 @@ told-of c =
 -- a run that goes on has room
 fit-of : (c : tie.Else1 Inv-loop μ-loop)
     → let a = entry-of c .args in
-    runnable (length (a .lows .now)) (length (a .highs .now)) (length (a .costs .now)) (length (a .dists .now)) (length (a .parents .now)) (length (a .marks .now)) ≡ true
+    ready (length (a .lows .now)) (length (a .highs .now)) (length (a .costs .now)) (length (a .dists .now)) (length (a .parents .now)) (length (a .marks .now)) ≡ true
 fit-of c = sym (told-of (c .before)) ∙ not-false (c .before .has-room .result) (c .if1 .left)
 
 answer-requires : tie.Need-answer-requires Inv-loop μ-loop
@@ -62,7 +63,7 @@ returns c = without-room _ _ _ _ _ (told-of (c .before .before)) (c .before .if1
 loop-holds : tie.Need-loop-holds Inv-loop μ-loop
 loop-holds c =
     let a = entry-of c .args in
-    let few = room-true (a .lows .now) (a .highs .now) (a .costs .now) (a .dists .now) (a .parents .now) (a .marks .now) (fit-of c) .2 in
+    let few = ready-true (length (a .lows .now)) (length (a .highs .now)) (length (a .costs .now)) (length (a .dists .now)) (length (a .parents .now)) (length (a .marks .now)) (fit-of c) .2 in
     starts _ _ _ _ _ _ _ _ _ _ _ _ (few, few, few)
 
 array-borrow-prefix-next-dists : tie.Need-array-borrow-prefix-next-dists Inv-loop μ-loop
