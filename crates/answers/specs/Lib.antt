@@ -1,1 +1,3 @@
+pub mod Refusals
 pub mod Values
+pub mod Verdicts

@@ -6,11 +6,11 @@ use Rattle.answers.specs.declared.RightAnswer as judged
 use Rattle.answers.specs.declared.RunAnswer as ran
 use Rattle.answers.specs.declared.SummaryAnswer as counted
 use Rattle.answers.specs.declared.WayAnswer as told
-use Rattle.answers.specs.declared.Written as written
-use Rattle.park.specs.declared.answer.Checked as checked
-use Rattle.refusals.specs.Refusals.{numberOf, placeOf}
-use Rattle.refusals.specs.declared.Refusal.{Refusal}
-use Rattle.way.specs.declared.Outcome as outcome
+use Rattle.answers.specs.declared.WriteAnswer as written
+use Rattle.answers.specs.declared.CheckAnswer as checked
+use Rattle.answers.specs.Refusals.{numberOf, placeOf}
+use Rattle.answers.specs.declared.refusal.Refusal.{Refusal}
+use Rattle.answers.specs.declared.Outcome as outcome
 use mathlib.Core.Bool.{cond}
 use mathlib.Core.List.{List, [], _∷_}
 
@@ -23,7 +23,7 @@ abbrev pub refusalValues : Refusal → List ℕ
 refusalValues r = numberOf r ∷ placeOf r ∷ 0 ∷ 0 ∷ 0 ∷ 0 ∷ 0 ∷ 0 ∷ []
 
 -- Check: nodes, links
-abbrev pub checkValues : checked.Checked → List ℕ
+abbrev pub checkValues : checked.CheckAnswer → List ℕ
 checkValues (checked.the-variants.Park nodes links) = values nodes links 0
 checkValues (checked.the-variants.Refused r) = refusalValues r
 
@@ -38,7 +38,7 @@ exactValues exacted.the-variants.Done = values 0 0 0
 exactValues (exacted.the-variants.Refused r) = refusalValues r
 
 -- Write: nothing but that it is done
-abbrev pub writeValues : written.Written → List ℕ
+abbrev pub writeValues : written.WriteAnswer → List ℕ
 writeValues (written.the-variants.Done length) = values 0 0 0
 writeValues (written.the-variants.Refused r) = refusalValues r
 

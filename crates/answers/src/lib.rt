@@ -1,8 +1,35 @@
-// What the calls answer, each a value of its own or a refusal; Check's answer is park's. The definition of document 01's
-// number and values for each answer is specs/Values.antt.
+// What the calls answer, each a value of its own or a refusal. The definition of document 01's number and values for each
+// answer is specs/Values.antt.
+pub mod refusal;
+pub mod values;
+
+use crate::refusal::Refusal;
+use measure::Hops;
 use measure::Rounds;
-use refusals::Refusal;
-use way::Way;
+
+// The numbers at the head of a park file.
+pub struct Head {
+    // The nodes, in nodes.
+    pub nodes: u16,
+    // The root, by its number.
+    pub root: u16,
+    // The links, in links.
+    pub links: u16,
+}
+
+// What reading a file's fields finds.
+pub enum ReadAnswer {
+    // A park file: the numbers at its head.
+    Park(Head),
+    Refused(Refusal),
+}
+
+// What Check answers.
+pub enum CheckAnswer {
+    // A park file: its number of nodes, and of links.
+    Park { nodes: u16, links: u16 },
+    Refused(Refusal),
+}
 
 // What Run answers.
 pub enum RunAnswer {
@@ -19,7 +46,7 @@ pub enum ExactAnswer {
 }
 
 // What Write answers.
-pub enum Written {
+pub enum WriteAnswer {
     // The file is in the area: its length, in bytes.
     Done(usize),
     Refused(Refusal),
@@ -34,10 +61,26 @@ pub enum RightAnswer {
     Refused(Refusal),
 }
 
+// Where following parents led.
+pub enum Outcome {
+    // The root was met, after so many hops.
+    Reached(Hops),
+    // The node, by its number, whose parent is not one of its neighbours.
+    Broken(u16),
+    // As many hops as there are nodes have met neither.
+    Looping,
+}
+
+// The node asked about, by its number, and where its way led.
+pub struct WayOfNode {
+    pub node: u16,
+    pub outcome: Outcome,
+}
+
 // What Way answers.
 pub enum WayAnswer {
     // The node asked about, by its number, and where its way led.
-    Told(Way),
+    Told(WayOfNode),
     Refused(Refusal),
 }
 

@@ -5,11 +5,11 @@ use mathlib.Core.Path.{_≡_, sym, ap, _∙_}
 use mathlib.Core.List.{List}
 use Rattle.wire.specs.Big.{Bytes}
 use Rattle.answers.specs.declared.ExactAnswer.{ExactAnswer}
-use Rattle.exacting.specs.Exacting.{Exacted}
-use Rattle.exacting.proofs.ExactingLaws.{exact-one}
+use Rattle.exact.specs.Exact.{Exacted}
+use Rattle.exact.proofs.ExactFileLaws.{exact-one}
 use Rattle.answers.specs.declared.RightAnswer.{RightAnswer}
-use Rattle.judging.specs.Judging.{Judged}
-use Rattle.judging.proofs.JudgeLaws.{right-one}
+use Rattle.right.specs.Right.{Judged}
+use Rattle.right.proofs.RightLaws.{right-one}
 use Rattle.answers.specs.Values.{exactValues, rightValues}
 
 -- what `chandvreksh_exact` ensures of a file, an area and a place: `is` has the answer's numbers

@@ -10,18 +10,19 @@ use Rattle.wire.specs.Big.{Bytes, big, bytesOf}
 use Rattle.group.specs.Group.{bitSet, memberIn}
 use Rattle.rule.specs.Round.{through, least, giving, before, first, chosen, newDist, parentAt, asked, newMark, newCell, at, numbered, round, arcsOf, netOf}
 use Rattle.rule.proofs.Demand3 as demand3
-use Rattle.park.specs.declared.answer.Verdict.the-variants.{Fine}
+use Rattle.answers.specs.declared.refusal.Verdict.the-variants.{Fine}
 use Rattle.park.specs.ParkFile.{parkIn, field, linkBytes, stateBytes, encode, withState}
-use Rattle.park.specs.Reading.{unless, _then_, fieldAt, headIn, linkAt, linksFrom, linksIn, bitsClear, groupIn, stateIn, endIn, verdictOf, linksRead, cellsRead, fileIn, readPark, park}
+use Rattle.answers.specs.Verdicts.{unless, _then_}
+use Rattle.park.specs.Reading.{fieldAt, boundsOf, headIn, linkAt, linksFrom, linksIn, bitsClear, groupIn, stateIn, endIn, verdictOf, linksRead, cellsRead, fileIn, readPark, park}
 use Rattle.park.proofs.ParkLaws.{read-park-ok}
 use Rattle.area.specs.Area.{areaWith}
 use Rattle.answers.specs.declared.ExactAnswer.{ExactAnswer}
-use Rattle.exacting.specs.Exacting.{exactVerdict, Exacted}
+use Rattle.exact.specs.Exact.{exactVerdict, Exacted}
 use Rattle.chandvreksh.specs.Cases.{fileF, zeros, exactF}
 
 -- the file is read
 readF : readPark (fileF (zeros 4)) ≡ park (fileIn (fileF (zeros 4)))
-unfolding big bytesOf field linkBytes stateBytes encode unless _then_ fieldAt headIn linkAt linksFrom linksIn bitsClear groupIn stateIn endIn verdictOf linksRead cellsRead fileIn readPark
+unfolding big bytesOf field linkBytes stateBytes encode unless _then_ fieldAt boundsOf headIn linkAt linksFrom linksIn bitsClear groupIn stateIn endIn verdictOf linksRead cellsRead fileIn readPark
 readF = refl
 
 -- a round leaves the table as it is

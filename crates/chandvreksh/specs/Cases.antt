@@ -7,11 +7,11 @@ use lib.ListN.{length, replicate}
 use Rattle.rule.specs.Round.{Cell, Link}
 use Rattle.park.specs.ParkFile.{encode}
 use Rattle.park.specs.Reading.{checkOf}
-use Rattle.making.specs.Making.{fileOf}
+use Rattle.writer.specs.Made.{fileOf}
 use Rattle.area.specs.Area.{areaWith}
-use Rattle.writing.specs.Writing.{writeVerdict, writeOf}
-use Rattle.running.specs.Running.{runAnswer, runVerdict, runFile}
-use Rattle.asking.specs.Asking.{wayAnswer}
+use Rattle.writer.specs.Write.{writeVerdict, writeOf}
+use Rattle.run.specs.Run.{runAnswer, runVerdict, runFile}
+use Rattle.way.specs.Way.{wayAnswer}
 use Rattle.answers.specs.Values.{values, checkValues, runValues, writeValues, wayValues}
 
 -- a call and what it is given

@@ -1,2 +1,1 @@
-pub mod FoundLaws
-pub mod TableFoundLaws
+pub mod ExactFileLaws

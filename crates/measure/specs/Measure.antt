@@ -10,6 +10,14 @@ ceiling = 16_777_215
 abbrev pub largestCost : ℕ
 largestCost = 65_535
 
+-- "n from 1 to 256": the most nodes of a park
+abbrev pub mostNodes : ℕ
+mostNodes = 256
+
+-- "Links 0 to 1,024": the most links of a park
+abbrev pub mostLinks : ℕ
+mostLinks = 1024
+
 -- "Run with a count N from 0 to 16,777,217": the largest count, in rounds.
 abbrev pub mostRounds : ℕ
 mostRounds = 16_777_217

@@ -1,7 +1,14 @@
 // Three measures, each a type of its own, so that none passes for another: a cost in cost units, a hop count in hops
-// and a round count in rounds. The ceiling, the largest cost and the capped addition stand with the cost.
+// and a round count in rounds. The ceiling, the largest cost and the capped addition stand with the cost. How large a park may
+// be stands here too.
 ghost use mathlib.Core.Path.{_≡_};
 ghost use Rattle.measure.specs.Measure.{cap, plus};
+
+// The most nodes of a park, in nodes.
+pub const NODES: usize = 256;
+
+// The most links of a park, in links.
+pub const LINKS: usize = 1024;
 
 // A link's cost or a node's distance from the root, in cost units. Any 32-bit number may be stored as a distance.
 pub struct Cost(pub u32);

@@ -1,10 +1,11 @@
 -- A field that stands at a place is read there, and a field that is read is the bytes that stand there.
 use Prim.Native.Nat.{ℕ, suc, _+_, _%_, _≤_, _<_}
-use Rattle.park.proofs.VerdictLaws.{then-fine, unless-fine}
+use Rattle.answers.proofs.VerdictLaws.{then-fine, unless-fine}
 use Rattle.park.specs.ParkFile.{field}
-use Rattle.park.specs.Reading.{unless, _then_, fieldAt, lengthAt}
-use Rattle.park.specs.declared.answer.Verdict.the-variants.{Fine, Refused}
-use Rattle.refusals.specs.declared.Refusal.the-variants.{Short, Length}
+use Rattle.answers.specs.Verdicts.{unless, _then_}
+use Rattle.park.specs.Reading.{fieldAt, lengthAt}
+use Rattle.answers.specs.declared.refusal.Verdict.the-variants.{Fine, Refused}
+use Rattle.answers.specs.declared.refusal.Refusal.the-variants.{Short, Length}
 use Rattle.wire.proofs.BigLaws.{Has, has-left, has-right, has-at, has-length, written-read, read-written, length-bytesOf}
 use Rattle.wire.specs.Big.{Bytes, big, bytesOf}
 use borrow.Author.Tests.{le-leb, lt-leb, eq-eqb, leb-true, eqb-true}

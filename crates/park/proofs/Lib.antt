@@ -1,4 +1,3 @@
-pub mod VerdictLaws
 pub mod FieldLaws
 pub mod RecordLaws
 pub mod RoundTrip

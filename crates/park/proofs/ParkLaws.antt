@@ -6,7 +6,7 @@ use mathlib.Core.List.{List, [], _∷_, List·Memᴰ, List·Memᴰ·cases-cons, 
 use native.Mathlib.Nat.{div-add-mod, le-div-iff-mul-le, one-mul, not-le-of-lt, le-trans}
 use native.Mathlib.Decide.{decLt}
 use native.Mathlib.Omega.{arith}
-use lib.ListN.{getD}
+use lib.ListN.{length, getD}
 use lib.Dec.{T, eqb→eq}
 use lib.Pow.{pow-pos, pow-mono}
 use Rattle.rule.specs.Round.{Link}
@@ -14,9 +14,11 @@ use Rattle.rule.specs.Settles.{ParkOk}
 use Rattle.wire.specs.Big.{Bytes}
 use Rattle.group.specs.Group.{bitSet, memberIn}
 use Rattle.park.specs.ParkFile.{ParkFile, ParkFileOk, parkIn, LinkOk, LinksOk, keyOf}
-use Rattle.park.specs.declared.answer.Verdict.the-variants.{Fine}
-use Rattle.park.specs.Reading.{lengthAt, nodesIn, verdictOf, fileIn, readPark, park}
-use Rattle.park.proofs.RoundTrip.{read-then-encode, file-read}
+use Rattle.answers.specs.declared.refusal.Verdict.the-variants.{Fine}
+use Rattle.measure.specs.Measure.{mostNodes, mostLinks}
+use Rattle.park.specs.Layout.{endAt}
+use Rattle.park.specs.Reading.{nodesIn, linkCount, verdictOf, fileIn, readPark, park}
+use Rattle.park.proofs.RoundTrip.{read-then-encode, file-read, few-links, length-read}
 
 -- a bit that is set is below the number
 bit-below : (x j m : ℕ) → T (bitSet x j) → x < 2 ^ m → j < m
@@ -77,9 +79,17 @@ fine-read s e = simp e
 pub fine-ok : (s : List ℕ) → Bytes s → verdictOf s ≡ Fine → ParkOk (parkIn (fileIn s))
 fine-ok s b fine = read-park-ok s (fileIn s) b (fine-read s fine)
 
--- it says at most 256 nodes and 1,024 links
-pub nodes-room : (s : List ℕ) (n : ℕ) → verdictOf s ≡ Fine → n ≡ nodesIn s → n ≤ 256
-nodes-room s n fine e = omega (arith, file-read s fine .few)
+-- its sizes: at most 256 nodes and 1,024 links, and a length that follows from both
+pub record Sizes (s : List ℕ) : Type 0 where
+  pub nodes : nodesIn s ≤ mostNodes
+  pub links : linkCount s ≤ mostLinks
+  pub size : length s ≡ endAt (nodesIn s) (linkCount s)
 
-pub links-room : (s : List ℕ) (x : ℕ) → verdictOf s ≡ Fine → x ≡ lengthAt s 7 → x / 6 ≤ 1024
-links-room s x fine e = omega (arith, file-read s fine .links .most)
+pub fine-sizes : (s : List ℕ) → verdictOf s ≡ Fine → Sizes s
+fine-sizes s fine = let r = file-read s fine in record { nodes = r .few; links = few-links s r; size = length-read s r }
+
+pub nodes-room : (s : List ℕ) (n : ℕ) → verdictOf s ≡ Fine → n ≡ nodesIn s → n ≤ mostNodes
+nodes-room s n fine e = omega (arith, fine-sizes s fine .nodes)
+
+pub links-room : (s : List ℕ) (links : ℕ) → verdictOf s ≡ Fine → links ≡ linkCount s → links ≤ mostLinks
+links-room s links fine e = omega (arith, fine-sizes s fine .links)

@@ -13,11 +13,12 @@ use borrow.Author.Tests.{le-leb, lt-ltb, leb-true, ltb-true}
 use Rattle.rule.specs.Round.{Link, Cell}
 use Rattle.wire.specs.Big.{Bytes, big, bytesOf}
 use Rattle.wire.proofs.BigLaws.{Has, has-left, has-right, has-at, written-read, read-written, length-bytesOf, big-four, big-lt}
-use Rattle.park.specs.declared.answer.Verdict.the-variants.{Fine}
+use Rattle.answers.specs.declared.refusal.Verdict.the-variants.{Fine}
 use Rattle.park.specs.ParkFile.{keyOf, linkBytes, stateBytes, LinkOk, LinksOk, CellsOk}
-use Rattle.park.specs.Reading.{unless, _then_, linkAt, linksFrom, keyAt, bitsClear, linksRead, cellsRead}
-use Rattle.slices.proofs.TestLaws.{both-true}
-use Rattle.park.proofs.VerdictLaws.{then-fine, unless-fine}
+use Rattle.answers.specs.Verdicts.{unless, _then_}
+use Rattle.park.specs.Reading.{linkAt, linksFrom, keyAt, bitsClear, linksRead, cellsRead}
+use Rattle.table.proofs.TestLaws.{both-true}
+use Rattle.answers.proofs.VerdictLaws.{then-fine, unless-fine}
 use Rattle.park.proofs.FieldLaws.{part, part-join}
 
 pub length-linkBytes : (ls : List Link) → length (linkBytes ls) ≡ 6 * length ls

@@ -13,25 +13,28 @@ use lib.Pow.{pow-pos}
 use borrow.Author.Tests.{le-leb, leb-true}
 use Rattle.wire.specs.Big.{Bytes, bytesOf}
 use Rattle.wire.proofs.BigLaws.{Has, has-all, has-left, has-right, has-at, has-part, written-read, length-bytesOf, read-written}
-use Rattle.park.specs.declared.answer.Verdict.{Verdict}
-use Rattle.park.specs.declared.answer.Verdict.the-variants.{Fine, Refused}
+use Rattle.answers.specs.declared.refusal.Verdict.{Verdict}
+use Rattle.answers.specs.declared.refusal.Verdict.the-variants.{Fine, Refused}
+use Rattle.measure.specs.Measure.{mostNodes, mostLinks}
+use Rattle.park.specs.Layout.{headSize, linkSize, groupSize, cellSize, linksAt, firstLink, groupAt, stateAt, firstCell, endAt, largestFile}
 use Rattle.park.specs.ParkFile.{ParkFile, field, linkBytes, stateBytes, encode, ParkFileOk}
-use Rattle.park.specs.Reading.{unless, _then_, lengthAt, nodesIn, rootIn, headIn, linksFrom, linkCount, linksIn, groupAt, stateAt, endAt, bitsClear, groupIn, stateIn, endIn, verdictOf, linksRead, cellsRead, fileIn, park, readPark}
-use Rattle.park.proofs.VerdictLaws.{then-fine, unless-fine}
+use Rattle.answers.specs.Verdicts.{unless, _then_}
+use Rattle.park.specs.Reading.{lengthAt, nodesIn, rootIn, boundsOf, headIn, linksFrom, linkCount, linksIn, bitsClear, groupIn, stateIn, endIn, verdictOf, linksRead, cellsRead, fileIn, park, readPark}
+use Rattle.answers.proofs.VerdictLaws.{then-fine, unless-fine}
 use Rattle.park.proofs.FieldLaws.{part, length-part, part-join, length-field, has-behind, Written, field-written, field-fine, FieldRead, field-read, field-part}
 use Rattle.park.proofs.RecordLaws.{length-linkBytes, length-stateBytes, links-written, cells-written, bits-written, bits-read, links-part, cells-part, cells-ok, links-ok, length-links, length-cells}
 
-pub length-encode : (f : ParkFile) → ParkFileOk f → length (encode f) ≡ 48 + 6 * length (f .links) + 7 * f .nodes
+pub length-encode : (f : ParkFile) → ParkFileOk f → length (encode f) ≡ endAt (f .nodes) (length (f .links))
 unfolding encode
 length-encode f ok =
     simp (length-append, length-field, length-bytesOf, length-linkBytes, length-stateBytes)
     (omega (arith, ok .groupSize, ok .stateSize))
 
 -- "The largest file is 7,984 bytes."
-pub largest : (f : ParkFile) → ParkFileOk f → length (encode f) ≤ 7984
+pub largest : (f : ParkFile) → ParkFileOk f → length (encode f) ≤ largestFile
 largest f ok = omega (arith, length-encode f ok, ok .linkCount, ok .few)
 
-pub largest-reached : (f : ParkFile) → ParkFileOk f → f .nodes ≡ 256 → length (f .links) ≡ 1024 → length (encode f) ≡ 7984
+pub largest-reached : (f : ParkFile) → ParkFileOk f → f .nodes ≡ mostNodes → length (f .links) ≡ mostLinks → length (encode f) ≡ largestFile
 largest-reached f ok n l = omega (arith, length-encode f ok)
 
 -- what stands where in the file of a park
@@ -52,28 +55,28 @@ module _ (f : ParkFile) (ok : ParkFileOk f) where
   unfolding encode
   all = has-all (encode f)
 
-  from2 : Has s 7 (field 2 second ++ (field 3 (f .group) ++ field 4 fourth))
-  from2 = has-behind 1 first (field 2 second ++ (field 3 (f .group) ++ field 4 fourth)) 7 all (simp (length-append, length-bytesOf))
+  from2 : Has s linksAt (field 2 second ++ (field 3 (f .group) ++ field 4 fourth))
+  from2 = has-behind 1 first (field 2 second ++ (field 3 (f .group) ++ field 4 fourth)) linksAt all (simp (length-append, length-bytesOf))
 
   abbrev l : ℕ
-  l = 6 * length (f .links)
+  l = length (f .links)
 
-  from3 : Has s (10 + l) (field 3 (f .group) ++ field 4 fourth)
-  from3 = has-behind 2 second (field 3 (f .group) ++ field 4 fourth) (10 + l) from2 (simp length-linkBytes (omega arith))
+  from3 : Has s (groupAt l) (field 3 (f .group) ++ field 4 fourth)
+  from3 = has-behind 2 second (field 3 (f .group) ++ field 4 fourth) (groupAt l) from2 (simp length-linkBytes (omega arith))
 
-  from4 : Has s (45 + l) (field 4 fourth)
-  from4 = has-behind 3 (f .group) (field 4 fourth) (45 + l) from3 (omega (arith, ok .groupSize))
+  from4 : Has s (stateAt l) (field 4 fourth)
+  from4 = has-behind 3 (f .group) (field 4 fourth) (stateAt l) from3 (omega (arith, ok .groupSize))
 
   one : Written s 0 1 first
   one = field-written 1 first (has-left (field 1 first) _ all) (simp (length-append, length-bytesOf) (lit< tt))
 
-  two : Written s 7 2 second
+  two : Written s linksAt 2 second
   two = field-written 2 second (has-left (field 2 second) _ from2) (omega (arith, length-linkBytes (f .links), ok .linkCount))
 
-  three : Written s (10 + l) 3 (f .group)
+  three : Written s (groupAt l) 3 (f .group)
   three = field-written 3 (f .group) (has-left (field 3 (f .group)) _ from3) (omega (arith, ok .groupSize))
 
-  four : Written s (45 + l) 4 fourth
+  four : Written s (stateAt l) 4 fourth
   four = field-written 4 fourth from4 (omega (arith, length-stateBytes (f .state), ok .stateSize, ok .few))
 
   nodes-is : nodesIn s ≡ f .nodes
@@ -85,20 +88,14 @@ module _ (f : ParkFile) (ok : ParkFileOk f) where
       let e : 3 + length (bytesOf 2 (f .nodes)) ≡ 5 = simp length-bytesOf in
       written-read 2 (f .root) (rw e at t) (omega (arith, ok .few, ok .rootMost))
 
-  said-is : lengthAt s 7 ≡ l
+  said-is : lengthAt s linksAt ≡ linkSize * l
   said-is = two .said ∙ length-linkBytes (f .links)
 
-  count-is : linkCount s ≡ length (f .links)
-  count-is = rw said-is (mul-div-cancel-left (length (f .links)) (lit< tt))
-
-  group-here : Has s (13 + l) (f .group)
-  group-here = let e : 10 + l + 3 ≡ 13 + l = omega arith in rw e at (three .inside)
-
-  state-here : Has s (48 + l) fourth
-  state-here = let e : 45 + l + 3 ≡ 48 + l = omega arith in rw e at (four .inside)
+  count-is : linkCount s ≡ l
+  count-is = rw said-is (mul-div-cancel-left l (lit< tt))
 
   head-fine : headIn s ≡ Fine
-  unfolding headIn unless _then_
+  unfolding headIn boundsOf unless _then_
   head-fine =
       let e = field-fine 1 4 4 one (mod-one _) (simp (length-append, length-bytesOf) (omega arith)) (simp (length-append, length-bytesOf) (omega arith)) in
       simp (e, nodes-is, root-is)
@@ -108,31 +105,30 @@ module _ (f : ParkFile) (ok : ParkFileOk f) where
   unfolding linksIn _then_
   links-fine =
       let len = length-linkBytes (f .links) in
-      let m : length second % 6 ≡ 0 = rw len (mul-mod-right 6 (length (f .links))) in
-      let e = field-fine 6 0 6144 two m (omega arith) (omega (arith, len, ok .linkCount)) in
+      let m : length second % linkSize ≡ 0 = rw len (mul-mod-right linkSize l) in
+      let e = field-fine linkSize 0 (linkSize * mostLinks) two m (omega arith) (omega (arith, len, ok .linkCount)) in
       simp (e, nodes-is, count-is) (links-written (f .nodes) 0 (f .links) (ok .few) (ok .links) (two .inside) .0)
 
   group-fine : groupIn s ≡ Fine
   unfolding groupIn unless _then_
   group-fine =
-      let e = field-fine 1 32 32 three (mod-one _) (omega (arith, ok .groupSize)) (omega (arith, ok .groupSize)) in
-      let p : 10 + l + 3 ≡ 13 + l = omega arith in
-      let b : bitsClear s (13 + l) (f .nodes) 32 ≡ true =
-      bits-written s (13 + l) (f .nodes) 32 (λ i h. rw (has-at group-here i (omega (arith, ok .groupSize))) (ok .bits i)) in
-      simp (nodes-is, said-is) (simp (e, p, b))
+      let e = field-fine 1 groupSize groupSize three (mod-one _) (omega (arith, ok .groupSize)) (omega (arith, ok .groupSize)) in
+      let b : bitsClear s (groupAt l + headSize) (f .nodes) groupSize ≡ true =
+      bits-written s (groupAt l + headSize) (f .nodes) groupSize (λ i h. rw (has-at (three .inside) i (omega (arith, ok .groupSize))) (ok .bits i)) in
+      simp (nodes-is, count-is) (simp (e, b))
 
   state-fine : stateIn s ≡ Fine
   unfolding stateIn
   state-fine =
       let len = length-stateBytes (f .state) in
-      let e = field-fine 1 (7 * f .nodes) (7 * f .nodes) four (mod-one _) (omega (arith, len, ok .stateSize)) (omega (arith, len, ok .stateSize)) in
-      simp (nodes-is, said-is) e
+      let e = field-fine 1 (cellSize * f .nodes) (cellSize * f .nodes) four (mod-one _) (omega (arith, len, ok .stateSize)) (omega (arith, len, ok .stateSize)) in
+      simp (nodes-is, count-is) e
 
   end-fine : endIn s ≡ Fine
   unfolding endIn unless
   end-fine =
-      let h : length s ≤ 48 + l + 7 * f .nodes = omega (arith, length-encode f ok) in
-      simp (nodes-is, said-is) (simp (le-leb _ _ h))
+      let h : length s ≤ endAt (f .nodes) l = omega (arith, length-encode f ok) in
+      simp (nodes-is, count-is) (simp (le-leb _ _ h))
 
   verdict-fine : verdictOf s ≡ Fine
   unfolding verdictOf _then_
@@ -141,12 +137,10 @@ module _ (f : ParkFile) (ok : ParkFileOk f) where
   file-is : fileIn s ≡ f
   unfolding fileIn
   file-is =
-      let p : 10 + l + 3 ≡ 13 + l = omega arith in
-      let q : 45 + l + 3 ≡ 48 + l = omega arith in
       let ls = links-written (f .nodes) 0 (f .links) (ok .few) (ok .links) (two .inside) .1 in
-      let g : take 32 (drop (13 + l) s) ≡ f .group = rw (← ok .groupSize) (has-part group-here) in
-      let c : cellsRead s (48 + l) (f .nodes) ≡ f .state = ap (cellsRead s (48 + l)) (sym (ok .stateSize)) ∙ cells-written (f .state) (ok .cells) state-here in
-      simp (count-is, ls) (simp (nodes-is, root-is, said-is) (simp (p, q, g, c)))
+      let g : take groupSize (drop (groupAt l + headSize) s) ≡ f .group = rw (← ok .groupSize) (has-part (three .inside)) in
+      let c : cellsRead s (firstCell l) (f .nodes) ≡ f .state = ap (cellsRead s (firstCell l)) (sym (ok .stateSize)) ∙ cells-written (f .state) (ok .cells) (four .inside) in
+      simp (count-is, ls) (simp (nodes-is, root-is) (simp (g, c)))
 
   -- write then read gives the same park
   pub encode-read : readPark (encode f) ≡ park f
@@ -157,23 +151,23 @@ module _ (f : ParkFile) (ok : ParkFileOk f) where
 pub record FileRead (s : List ℕ) : Type 0 where
   pub head : FieldRead s 0 1 1 4 4
   pub some : 1 ≤ nodesIn s
-  pub few : nodesIn s ≤ 256
+  pub few : nodesIn s ≤ mostNodes
   pub rootLeast : 1 ≤ rootIn s
   pub rootMost : rootIn s ≤ nodesIn s
-  pub links : FieldRead s 7 2 6 0 6144
-  pub records : linksFrom s (nodesIn s) 10 0 (linkCount s) ≡ Fine
-  pub group : FieldRead s (groupAt s) 3 1 32 32
-  pub bits : bitsClear s (groupAt s + 3) (nodesIn s) 32 ≡ true
-  pub state : FieldRead s (stateAt s) 4 1 (7 * nodesIn s) (7 * nodesIn s)
-  pub end : length s ≤ endAt s
+  pub links : FieldRead s linksAt 2 linkSize 0 (linkSize * mostLinks)
+  pub records : linksFrom s (nodesIn s) firstLink 0 (linkCount s) ≡ Fine
+  pub group : FieldRead s (groupAt (linkCount s)) 3 1 groupSize groupSize
+  pub bits : bitsClear s (groupAt (linkCount s) + headSize) (nodesIn s) groupSize ≡ true
+  pub state : FieldRead s (stateAt (linkCount s)) 4 1 (cellSize * nodesIn s) (cellSize * nodesIn s)
+  pub end : length s ≤ endAt (nodesIn s) (linkCount s)
 
 -- a head that was not refused says at most 256 nodes
-pub head-few : (s : List ℕ) → headIn s ≡ Fine → nodesIn s ≤ 256
-unfolding headIn
+pub head-few : (s : List ℕ) → headIn s ≡ Fine → nodesIn s ≤ mostNodes
+unfolding headIn boundsOf
 head-few s e = leb-true _ _ (unless-fine _ _ (then-fine _ _ (then-fine _ _ (then-fine _ _ e .1) .1) .0))
 
 pub file-read : (s : List ℕ) → verdictOf s ≡ Fine → FileRead s
-unfolding verdictOf headIn linksIn groupIn stateIn endIn
+unfolding verdictOf headIn boundsOf linksIn groupIn stateIn endIn
 file-read s e =
     let a = then-fine _ _ e in
     let b = then-fine _ _ (a .1) in
@@ -191,61 +185,71 @@ file-read s e =
       few = leb-true _ _ (unless-fine _ _ (h3 .0));
       rootLeast = leb-true _ _ (unless-fine _ _ (h4 .0));
       rootMost = leb-true _ _ (unless-fine _ _ (h4 .1));
-      links = field-read s 7 2 6 0 6144 (l .0);
+      links = field-read s linksAt 2 linkSize 0 (linkSize * mostLinks) (l .0);
       records = l .1;
-      group = field-read s (groupAt s) 3 1 32 32 (g .0);
+      group = field-read s (groupAt (linkCount s)) 3 1 groupSize groupSize (g .0);
       bits = unless-fine _ _ (g .1);
-      state = field-read s (stateAt s) 4 1 (7 * nodesIn s) (7 * nodesIn s) (d .0);
+      state = field-read s (stateAt (linkCount s)) 4 1 (cellSize * nodesIn s) (cellSize * nodesIn s) (d .0);
       end = leb-true _ _ (unless-fine _ _ (d .1));
     }
 
-module _ (s : List ℕ) (b : Bytes s) (r : FileRead s) where
+-- the sizes of a list of bytes that was not refused
+module _ (s : List ℕ) (r : FileRead s) where
   -- the link field's length is six bytes a link
-  pub six : 6 * linkCount s ≡ lengthAt s 7
-  six = omega (arith, div-add-mod (lengthAt s 7) 6, r .links .multiple)
+  pub six : linkSize * linkCount s ≡ lengthAt s linksAt
+  six = omega (arith, div-add-mod (lengthAt s linksAt) linkSize, r .links .multiple)
 
-  pub length-read : length s ≡ endAt s
+  pub few-links : linkCount s ≤ mostLinks
+  few-links = omega (arith, six, r .links .most)
+
+  pub length-read : length s ≡ endAt (nodesIn s) (linkCount s)
   length-read = omega (arith, r .state .room, r .state .least, r .end)
 
-  head-part : field 1 (bytesOf 2 (nodesIn s) ++ bytesOf 2 (rootIn s)) ≡ part s 0 7
+module _ (s : List ℕ) (b : Bytes s) (r : FileRead s) where
+  abbrev count : ℕ
+  count = linkCount s
+
+  abbrev bits-at : ℕ
+  bits-at = groupAt (linkCount s) + headSize
+
+  head-part : field 1 (bytesOf 2 (nodesIn s) ++ bytesOf 2 (rootIn s)) ≡ part s 0 linksAt
   head-part =
-      let body : bytesOf 2 (nodesIn s) ++ bytesOf 2 (rootIn s) ≡ part s 3 4 =
-      ap₂ (λ (x y : List ℕ). x ++ y) (read-written 2 s 3 b (omega (arith, length-read))) (read-written 2 s 5 b (omega (arith, length-read)))
+      let body : bytesOf 2 (nodesIn s) ++ bytesOf 2 (rootIn s) ≡ part s headSize 4 =
+      ap₂ (λ (x y : List ℕ). x ++ y) (read-written 2 s 3 b (omega (arith, length-read s r))) (read-written 2 s 5 b (omega (arith, length-read s r)))
       ∙ part-join s 3 5 2 2 refl in
       field-part (bytesOf 2 (nodesIn s) ++ bytesOf 2 (rootIn s)) 4 b (r .head) (omega (arith, r .head .least, r .head .most)) body
 
-  links-field : field 2 (linkBytes (linksRead s 10 (linkCount s))) ≡ part s 7 (3 + lengthAt s 7)
+  links-field : field 2 (linkBytes (linksRead s firstLink count)) ≡ part s linksAt (headSize + linkSize * count)
   links-field =
-      let body : linkBytes (linksRead s 10 (linkCount s)) ≡ part s 10 (lengthAt s 7) =
-      links-part s b 10 (linkCount s) (omega (arith, length-read, six)) ∙ ap (part s 10) six in
-      field-part (linkBytes (linksRead s 10 (linkCount s))) (lengthAt s 7) b (r .links) refl body
+      field-part (linkBytes (linksRead s firstLink count)) (linkSize * count) b (r .links) (sym (six s r))
+      (links-part s b firstLink count (omega (arith, length-read s r)))
 
-  group-field : field 3 (part s (groupAt s + 3) 32) ≡ part s (groupAt s) 35
-  group-field = field-part (part s (groupAt s + 3) 32) 32 b (r .group) (omega (arith, r .group .least, r .group .most)) refl
+  group-field : field 3 (part s bits-at groupSize) ≡ part s (groupAt count) (headSize + groupSize)
+  group-field = field-part (part s bits-at groupSize) groupSize b (r .group) (omega (arith, r .group .least, r .group .most)) refl
 
-  state-field : field 4 (stateBytes (cellsRead s (stateAt s + 3) (nodesIn s))) ≡ part s (stateAt s) (3 + 7 * nodesIn s)
+  state-field : field 4 (stateBytes (cellsRead s (firstCell count) (nodesIn s))) ≡ part s (stateAt count) (headSize + cellSize * nodesIn s)
   state-field =
-      field-part (stateBytes (cellsRead s (stateAt s + 3) (nodesIn s))) (7 * nodesIn s) b (r .state) (omega (arith, r .state .least, r .state .most))
-      (cells-part s b (stateAt s + 3) (nodesIn s) (omega (arith, length-read)))
+      field-part (stateBytes (cellsRead s (firstCell count) (nodesIn s))) (cellSize * nodesIn s) b (r .state) (omega (arith, r .state .least, r .state .most))
+      (cells-part s b (firstCell count) (nodesIn s) (omega (arith, length-read s r)))
 
   read-encode : encode (fileIn s) ≡ s
   unfolding encode fileIn
   read-encode =
-      let n : ℕ = nodesIn s in
-      let l : ℕ = lengthAt s 7 in
-      let p : 10 + l + 35 ≡ 45 + l = omega arith in
-      let q : 7 + (3 + l) ≡ 10 + l = omega arith in
-      let w : 7 + (3 + l + (35 + (3 + 7 * n))) ≡ length s = omega (arith, length-read) in
+      let third : ℕ = headSize + groupSize in
+      let fourth : ℕ = headSize + cellSize * nodesIn s in
+      let second : ℕ = headSize + linkSize * count in
+      let q : linksAt + second ≡ groupAt count = omega arith in
+      let w : linksAt + (second + (third + fourth)) ≡ length s = omega (arith, length-read s r) in
       rw (head-part, links-field, group-field, state-field)
-      (rw (part-join s (10 + l) (45 + l) 35 (3 + 7 * n) p, part-join s 7 (10 + l) (3 + l) (35 + (3 + 7 * n)) q, part-join s 0 7 7 (3 + l + (35 + (3 + 7 * n))) refl, w)
+      (rw (part-join s (groupAt count) (stateAt count) third fourth refl, part-join s linksAt (groupAt count) second (third + fourth) q, part-join s 0 linksAt linksAt (second + (third + fourth)) refl, w)
       (take-all (length s) s (omega arith)))
 
-  group-bits : (i : ℕ) → getD (part s (groupAt s + 3) 32) i 0 < 2 ^ min 8 (nodesIn s - 8 * i)
-  group-bits i = go (decLt i 32)
+  group-bits : (i : ℕ) → getD (part s bits-at groupSize) i 0 < 2 ^ min 8 (nodesIn s - 8 * i)
+  group-bits i = go (decLt i groupSize)
     where
-      go : Dec (i < 32) → getD (part s (groupAt s + 3) 32) i 0 < 2 ^ min 8 (nodesIn s - 8 * i)
-      go (yes h) = rw (getD-take 32 (drop (groupAt s + 3) s) i 0 h, getD-drop (groupAt s + 3) s i 0) (bits-read s (groupAt s + 3) (nodesIn s) 32 (r .bits) i h)
-      go (no h) = rw (List·getD-eq-default (part s (groupAt s + 3) 32) 0 {n = i} (omega (arith, length-part s (groupAt s + 3) 32 (omega (arith, length-read))))) (pow-pos (min 8 (nodesIn s - 8 * i)))
+      go : Dec (i < groupSize) → getD (part s bits-at groupSize) i 0 < 2 ^ min 8 (nodesIn s - 8 * i)
+      go (yes h) = rw (getD-take groupSize (drop bits-at s) i 0 h, getD-drop bits-at s i 0) (bits-read s bits-at (nodesIn s) groupSize (r .bits) i h)
+      go (no h) = rw (List·getD-eq-default (part s bits-at groupSize) 0 {n = i} (omega (arith, length-part s bits-at groupSize (omega (arith, length-read s r))))) (pow-pos (min 8 (nodesIn s - 8 * i)))
 
   read-ok : ParkFileOk (fileIn s)
   unfolding fileIn
@@ -255,12 +259,12 @@ module _ (s : List ℕ) (b : Bytes s) (r : FileRead s) where
         few = r .few;
         rootLeast = r .rootLeast;
         rootMost = r .rootMost;
-        linkCount = omega (arith, length-links s 10 (linkCount s), six, r .links .most);
-        links = links-ok s b (nodesIn s) 10 0 (linkCount s) (r .records);
-        groupSize = length-part s (groupAt s + 3) 32 (omega (arith, length-read));
+        linkCount = omega (arith, length-links s firstLink count, few-links s r);
+        links = links-ok s b (nodesIn s) firstLink 0 count (r .records);
+        groupSize = length-part s bits-at groupSize (omega (arith, length-read s r));
         bits = group-bits;
-        stateSize = length-cells s (stateAt s + 3) (nodesIn s);
-        cells = cells-ok s b (stateAt s + 3) (nodesIn s);
+        stateSize = length-cells s (firstCell count) (nodesIn s);
+        cells = cells-ok s b (firstCell count) (nodesIn s);
       }
 
 -- a file that is read as a park was not refused, and the park is what its fields hold

@@ -8,8 +8,9 @@ use lib.Seq.{sets, sets-eq, take-at}
 use Rattle.rule.specs.Round.{Cell}
 use Rattle.wire.specs.Big.{Bytes, bytesOf}
 use Rattle.wire.proofs.BigLaws.{length-bytesOf}
+use Rattle.park.specs.Layout.{firstCell}
 use Rattle.park.specs.ParkFile.{ParkFile, field, linkBytes, stateBytes, encode, withState, ParkFileOk, CellsOk}
-use Rattle.slices.specs.Slices.{cellsOf}
+use Rattle.table.specs.Slices.{cellsOf}
 use Rattle.park.specs.Reading.{readPark, park}
 use Rattle.park.proofs.FieldLaws.{length-field}
 use Rattle.park.proofs.RecordLaws.{length-linkBytes, length-stateBytes}
@@ -34,19 +35,19 @@ front-encode : (f : ParkFile) → encode f ≡ front f (length (stateBytes (f .s
 unfolding encode field
 front-encode f = simp append-assoc
 
-length-front : (f : ParkFile) (k : ℕ) → ParkFileOk f → length (front f k) ≡ 48 + 6 * length (f .links)
+length-front : (f : ParkFile) (k : ℕ) → ParkFileOk f → length (front f k) ≡ firstCell (length (f .links))
 length-front f k ok =
     simp (length-append, length-field, length-bytesOf, length-linkBytes) (omega (arith, ok .groupSize))
 
 pub encode-state : (f : ParkFile) (t : List Cell) → ParkFileOk f → length t ≡ f .nodes
-    → sets (encode f) (48 + 6 * length (f .links)) (stateBytes t) ≡ encode (withState f t)
+    → sets (encode f) (firstCell (length (f .links))) (stateBytes t) ≡ encode (withState f t)
 unfolding withState
 encode-state f t ok e =
     let n : length (stateBytes (f .state)) ≡ length (stateBytes t) =
     length-stateBytes (f .state) ∙ ap (λ (k : ℕ). 7 * k) (ok .stateSize ∙ sym e) ∙ sym (length-stateBytes t) in
     let k : ℕ = length (stateBytes (f .state)) in
-    ap (λ (l : List ℕ). sets l (48 + 6 * length (f .links)) (stateBytes t)) (front-encode f)
-    ∙ sets-end (front f k) (stateBytes (f .state)) (stateBytes t) (48 + 6 * length (f .links)) (length-front f k ok) n
+    ap (λ (l : List ℕ). sets l (firstCell (length (f .links))) (stateBytes t)) (front-encode f)
+    ∙ sets-end (front f k) (stateBytes (f .state)) (stateBytes t) (firstCell (length (f .links))) (length-front f k ok) n
     ∙ ap (λ (j : ℕ). front f j ++ stateBytes t) n
     ∙ sym (front-encode (record { nodes = f .nodes; root = f .root; links = f .links; group = f .group; state = t }))
 
@@ -68,13 +69,13 @@ with-ok f t ok e cells =
 
 -- the state's bytes of a file that was read, replaced by a table of n cells: the file of the park with that table, and it is read as that park
 pub state-put : (s : List ℕ) (f : ParkFile) (t : List Cell) → Bytes s → readPark s ≡ park f → length t ≡ f .nodes
-    → sets s (48 + 6 * length (f .links)) (stateBytes t) ≡ encode (withState f t)
+    → sets s (firstCell (length (f .links))) (stateBytes t) ≡ encode (withState f t)
 state-put s f t b r e =
     let p = read-then-encode s f b r in
-    ap (λ (l : List ℕ). sets l (48 + 6 * length (f .links)) (stateBytes t)) (sym (p .0)) ∙ encode-state f t (p .1) e
+    ap (λ (l : List ℕ). sets l (firstCell (length (f .links))) (stateBytes t)) (sym (p .0)) ∙ encode-state f t (p .1) e
 
 pub state-read : (s : List ℕ) (f : ParkFile) (t : List Cell) → Bytes s → readPark s ≡ park f → length t ≡ f .nodes → CellsOk t
-    → readPark (sets s (48 + 6 * length (f .links)) (stateBytes t)) ≡ park (withState f t)
+    → readPark (sets s (firstCell (length (f .links))) (stateBytes t)) ≡ park (withState f t)
 state-read s f t b r e cells =
     ap readPark (state-put s f t b r e) ∙ encode-read (withState f t) (with-ok f t (read-then-encode s f b r .1) e cells)
 

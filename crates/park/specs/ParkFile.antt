@@ -6,6 +6,8 @@ use lib.ListN.{length, getD}
 use Rattle.wire.specs.Big.{bytesOf}
 use Rattle.rule.specs.Round.{Link, Cell, Park}
 use Rattle.group.specs.Group.{memberIn}
+use Rattle.measure.specs.Measure.{mostNodes, mostLinks}
+use Rattle.park.specs.Layout.{groupSize}
 
 -- "Nodes 1 to n. One node is the root. Links. The group. For each node a stored distance, parent and mark."
 pub record ParkFile : Type 0 where
@@ -74,15 +76,15 @@ CellsOk (c ∷ cs) = CellOk c × CellsOk cs
 pub record ParkFileOk (f : ParkFile) : Type 0 where
   -- "n from 1 to 256"
   pub some : 1 ≤ f .nodes
-  pub few : f .nodes ≤ 256
+  pub few : f .nodes ≤ mostNodes
   -- "One node is the root"
   pub rootLeast : 1 ≤ f .root
   pub rootMost : f .root ≤ f .nodes
   -- "Links 0 to 1,024", in order
-  pub linkCount : length (f .links) ≤ 1024
+  pub linkCount : length (f .links) ≤ mostLinks
   pub links : LinksOk (f .nodes) 0 (f .links)
   -- 32 bytes, "bits above n are 0"
-  pub groupSize : length (f .group) ≡ 32
+  pub groupSize : length (f .group) ≡ groupSize
   pub bits : (i : ℕ) → getD (f .group) i 0 < 2 ^ min 8 (f .nodes - 8 * i)
   -- a cell for each node
   pub stateSize : length (f .state) ≡ f .nodes

@@ -1,6 +1,6 @@
 -- The cell that a node's turn makes is the rule's new cell.
 use Prim.Native.Nat.{ℕ}
-use mathlib.Core.Path.{_≡_, sym, ap, _∙_, subst, subst₃}
+use mathlib.Core.Path.{_≡_, refl, sym, ap, _∙_, subst, subst₃}
 use mathlib.Core.Bool.{Bool, true, false, cond, _||_}
 use mathlib.Core.List.{List}
 use lib.ListN.{length}
@@ -10,13 +10,13 @@ use Rattle.measure.specs.Measure.{ceiling}
 use Rattle.rule.specs.Round.{Net, Cell, at, giving, chosen, asked, newDist, parentAt, newMark, newCell, arcsOf, netOf}
 use Rattle.rule.proofs.OnePassLaws.{kept-from}
 use Rattle.group.specs.Group.{memberIn}
-use Rattle.slices.specs.Slices.{linksOf, cellsOf, parkOf}
-use Rattle.keeping.specs.declared.Best.{Best}
-use Rattle.slices.specs.Reading.{nodeAt}
-use Rattle.keeping.specs.Keep.{unheard, keptArc}
+use Rattle.table.specs.Slices.{linksOf, cellsOf, parkOf}
+use Rattle.round.specs.declared.keep.Best.{Best}
+use Rattle.table.specs.Nodes.{nodeAt}
+use Rattle.round.specs.Keep.{unheard, keptArc}
 use Rattle.round.specs.Scan.{passedAll}
 use Rattle.round.proofs.HeardLaws.{Heard, heard}
-use Rattle.slices.proofs.TableLaws.{Slices, slices, part-at}
+use Rattle.table.proofs.TableLaws.{Slices, slices, part-at}
 
 -- a node that has heard its arcs
 module _ (N : Net) (s : ℕ → Cell) (i : ℕ) (b : Best) (h : Heard (λ j. s j .dist) (λ j. s j .parent) (λ j. s j .mark) i (N .arcs i) b)
@@ -62,7 +62,7 @@ module _ (root : ℕ) (ls hs cs ws ds ps ms : List ℕ) (even : (length ps ≡ l
       let M : (λ (j : ℕ). s j .mark) ≡ nodeAt 0 ms = part-at (λ (c : Cell). c .mark) t ∙ ap (nodeAt 0) (e .marks) in
       subst (λ (x : Best). Heard (λ j. s j .dist) (λ j. s j .parent) (λ j. s j .mark) i (arcsOf (linksOf ls hs cs) i) x) (sym eb)
       (subst₃ (λ (D P M : ℕ → ℕ). Heard D P M i (arcsOf (linksOf ls hs cs) i) (passedAll (nodeAt ceiling ds) (nodeAt 0 ps) (nodeAt 0 ms) i unheard (linksOf ls hs cs)))
-      (sym D) (sym P) (sym M) (heard (nodeAt ceiling ds) (nodeAt 0 ps) (nodeAt 0 ms) i (linksOf ls hs cs)))
+      (sym D) (sym P) (sym M) (heard (nodeAt ceiling ds) (nodeAt 0 ps) (nodeAt 0 ms) i refl refl (linksOf ls hs cs)))
 
   pub slices-root : root ≡ i → record { dist = 0; parent = 0; mark = m } ≡ newCell (netOf (parkOf (length ds) root ls hs cs ws)) (at (cellsOf ds ps ms)) i
   unfolding netOf parkOf

@@ -1,6 +1,6 @@
 -- What a node knows after its search is what the rule says of its arcs: the least offer, the arc kept for it, and whether it is asked.
 -- `Heard` holds before the first arc, and one arc more carries it on.
-use Prim.Native.Nat.{ℕ, _<_}
+use Prim.Native.Nat.{ℕ, _≤_, _<_}
 use native.Mathlib.Omega.{arith}
 use native.Mathlib.Decide.{decLt}
 use mathlib.Core.Path.{_≡_, refl, sym, ap, _∙_, subst}
@@ -8,14 +8,17 @@ use mathlib.Core.Bool.{Bool, true, false, cond, not, _||_, or-false, or-assoc}
 use mathlib.Core.List.{List, [], _∷_, _++_, append-nil}
 use lib.Seq.{append-snoc}
 use lib.Dec.{eqb}
+use borrow.Author.Tests.{eqb-true}
 use Rattle.measure.specs.Measure.{ceiling}
 use Rattle.rule.specs.Round.{Arc, Link, through, before, asked, arcsOf}
+use Rattle.rule.proofs.OfferLaws.{least-le}
 use Rattle.rule.proofs.OnePassLaws.{Kept, kept-none, kept-less, kept-equal, kept-more, kept-ceiling}
-use Rattle.keeping.specs.declared.Best.{Best}
-use Rattle.keeping.specs.Keep.{unheard, keptArc, takes, kept}
-use Rattle.hearing.specs.Hear.{asks, withAsked, hear, passed}
+use Rattle.round.specs.declared.keep.Best.{Best}
+use Rattle.round.specs.Keep.{unheard, keptArc, takes, kept}
+use Rattle.round.specs.Hear.{asks, withAsked, hear, passed}
 use Rattle.round.specs.Scan.{passedAll}
-use Rattle.keeping.proofs.KeepLaws.{takes-less, takes-more, takes-ceiling, takes-tie}
+use Rattle.round.proofs.KeepLaws.{takes-less, takes-more, takes-ceiling, takes-tie}
+use Rattle.round.proofs.HearLaws.{hear-none}
 
 -- what node i knows after the arcs xs
 pub record Heard (D P M : ℕ → ℕ) (i : ℕ) (xs : List Arc) (b : Best) : Type 0 where
@@ -67,26 +70,36 @@ module _ (D P M : ℕ → ℕ) (i : ℕ) where
       go true k = record { kept = k; asked = told }
       go false k = record { kept = k; asked = told }
 
-  heard-links : (ls : List Link) (xs : List Arc) (b : Best) → Heard D P M i xs b → Heard D P M i (xs ++ arcsOf ls i) (passedAll D P M i b ls)
-  unfolding arcsOf passedAll passed
-  heard-links [] xs b h = rw append-nil h
-  heard-links (l ∷ ls) xs b h =
-      go (eqb (l .low) i) (eqb (l .high) i) (λ (a : Arc). heard-links ls (xs ++ a ∷ []) (hear D P M i b a) (heard-arc xs b h a)) (heard-links ls xs b h)
-    where
-      low : Arc
-      low = record { from = l .low; cost = l .cost }
+  -- nothing is heard of node 0, which has no distance and no mark
+  module _ (far : D 0 ≡ ceiling) (clear : M 0 ≡ 0) where
+    heard-from : (xs : List Arc) (b : Best) → Heard D P M i xs b → (a : Arc) → Heard D P M i (xs ++ a ∷ []) (cond (eqb (a .from) 0) b (hear D P M i b a))
+    heard-from xs b h a = go (eqb (a .from) 0) refl
+      where
+        near : b .dist .0 ≤ ceiling
+        near = rw (h .kept .dist) (least-le D xs)
 
-      high : Arc
-      high = record { from = l .high; cost = l .cost }
+        go : (t : Bool) → eqb (a .from) 0 ≡ t → Heard D P M i (xs ++ a ∷ []) (cond t b (hear D P M i b a))
+        go true e = rw (hear-none D P M i far clear b near a (eqb-true (a .from) 0 e)) at (heard-arc xs b h a)
+        go false e = heard-arc xs b h a
 
-      go : (s t : Bool) → ((a : Arc) → Heard D P M i ((xs ++ a ∷ []) ++ arcsOf ls i) (passedAll D P M i (hear D P M i b a) ls))
-          → Heard D P M i (xs ++ arcsOf ls i) (passedAll D P M i b ls)
-          → Heard D P M i (xs ++ cond s (high ∷ arcsOf ls i) (cond t (low ∷ arcsOf ls i) (arcsOf ls i))) (passedAll D P M i (cond s (hear D P M i b high) (cond t (hear D P M i b low) b)) ls)
-      go true t one none = rw append-snoc at (one high)
-      go false true one none = rw append-snoc at (one low)
-      go false false one none = none
+    heard-links : (ls : List Link) (xs : List Arc) (b : Best) → Heard D P M i xs b → Heard D P M i (xs ++ arcsOf ls i) (passedAll D P M i b ls)
+    unfolding arcsOf passedAll passed
+    heard-links [] xs b h = rw append-nil h
+    heard-links (l ∷ ls) xs b h =
+        go (eqb (l .low) i) (eqb (l .high) i) (λ (a : Arc). heard-links ls (xs ++ a ∷ []) (cond (eqb (a .from) 0) b (hear D P M i b a)) (heard-from xs b h a)) (heard-links ls xs b h)
+      where
+        arc : ℕ → Arc
+        arc j = record { from = j; cost = l .cost }
 
-  -- what a node knows after all links
-  pub heard : (ls : List Link) → Heard D P M i (arcsOf ls i) (passedAll D P M i unheard ls)
-  unfolding asked
-  heard ls = heard-links ls [] unheard (record { kept = kept-none D (keptArc unheard) refl; asked = refl })
+        go : (s t : Bool) → ((a : Arc) → Heard D P M i ((xs ++ a ∷ []) ++ arcsOf ls i) (passedAll D P M i (cond (eqb (a .from) 0) b (hear D P M i b a)) ls))
+            → Heard D P M i (xs ++ arcsOf ls i) (passedAll D P M i b ls)
+            → let from : ℕ = cond s (l .high) (cond t (l .low) 0) in
+            Heard D P M i (xs ++ cond s (arc (l .high) ∷ arcsOf ls i) (cond t (arc (l .low) ∷ arcsOf ls i) (arcsOf ls i))) (passedAll D P M i (cond (eqb from 0) b (hear D P M i b (arc from))) ls)
+        go true t one none = rw append-snoc at (one (arc (l .high)))
+        go false true one none = rw append-snoc at (one (arc (l .low)))
+        go false false one none = none
+
+    -- what a node knows after all links
+    pub heard : (ls : List Link) → Heard D P M i (arcsOf ls i) (passedAll D P M i unheard ls)
+    unfolding asked
+    heard ls = heard-links ls [] unheard (record { kept = kept-none D (keptArc unheard) refl; asked = refl })

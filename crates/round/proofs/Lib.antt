@@ -1,5 +1,11 @@
+pub mod KeepLaws
+pub mod HearLaws
 pub mod ScanLaws
 pub mod HeardLaws
 pub mod CellLaws
+pub mod PairLaws
 pub mod RoundLaws
 pub mod ParentByLaws
+pub mod StepLaws
+pub mod RunLaws
+pub mod OverLaws

@@ -2,16 +2,14 @@
 use Prim.Native.Nat.{ℕ, zero, suc, _+_, _≤_, _<_}
 use native.Mathlib.Nat.{not-suc-le-zero, le-of-suc-le-suc, add-zero, add-suc, suc-add, add-comm}
 use native.Mathlib.Omega.{arith}
-use mathlib.Core.Path.{_≡_, refl, sym, ap, _∙_}
-use mathlib.Core.Bool.{Bool, true, false}
+use mathlib.Core.Path.{_≡_, refl, sym, ap, _∙_, subst₃}
 use mathlib.Core.List.{List, [], _∷_, map}
-use lib.ListN.{length, getD, set, length-map, length-set}
+use lib.ListN.{length, getD, set, length-map}
 use Rattle.rule.specs.Round.{Net, Cell, newCell, at, numbered, round, netOf}
-use Rattle.slices.specs.Slices.{distsOf, parentsOf, marksOf, cellsOf, parkOf}
-use Rattle.slices.proofs.SliceLaws.{over, over-next, over-all}
-use Rattle.tables.specs.Fit.{fits, Together, Holds, Written}
-use Rattle.tables.proofs.FitLaws.{fit-true, written, unwritten}
+use Rattle.table.specs.Slices.{distsOf, parentsOf, marksOf, cellsOf, parkOf}
+use Rattle.table.specs.Fit.{Together, Holds}
 use Rattle.round.specs.Table.{cellAfter, roundOf}
+use Rattle.round.proofs.PairLaws.{Filled, filled-start, filled-next, filled-all}
 
 numbered-length : (i n : ℕ) → length (numbered i n) ≡ n
 unfolding numbered
@@ -44,83 +42,50 @@ module _ (N : Net) (n : ℕ) (t : List Cell) where
       ∙ numbered-at (λ (i : ℕ). f (newCell N (at t) i)) 1 n k 0 h
       ∙ ap (λ (i : ℕ). f (newCell N (at t) i)) (add-comm 1 k)
 
-  -- a slice that is written up to node k: one node more, and all of them
-  module _ (f : Cell → ℕ) (old : List ℕ) (e : length old ≡ n) (s : List ℕ) (k : ℕ) (so-far : s ≡ over (map f (round N n t)) k old) where
-    pub part-next : k < n → (c : Cell) → c ≡ newCell N (at t) (k + 1) → set s k (f c) ≡ over (map f (round N n t)) (k + 1) old
-    part-next h c q =
-        over-next (map f (round N n t)) old k (omega arith) (part-length f ∙ sym e) s so-far (f c) (ap f q ∙ sym (part-of f k h))
+-- The round is written node by node into slices of as many nodes.
+module _ (root : ℕ) (ls hs cs ws ds ps ms ds₀ ps₀ ms₀ : List ℕ) (fit : Together ds ps ms ds₀ ps₀ ms₀) where
+  abbrev N : Net
+  N = netOf (parkOf (length ds) root ls hs cs ws)
 
-    pub part-all : n ≤ k → s ≡ map f (round N n t)
-    part-all h = so-far ∙ over-all (map f (round N n t)) old k (omega (arith, part-length f)) (part-length f ∙ sym e)
+  abbrev t : List Cell
+  t = roundOf root ls hs cs ws ds ps ms
 
--- The round is written up to place k: there the new slices hold it, and behind what they held (ds₀ ps₀ ms₀).
-pub record UpTo (root : ℕ) (ls hs cs ws ds ps ms ds₀ ps₀ ms₀ ds′ ps′ ms′ : List ℕ) (k : ℕ) : Type 0 where
-  pub before : Together ls hs cs ds ps ms ds₀ ps₀ ms₀
-  pub now : Together ls hs cs ds ps ms ds′ ps′ ms′
-  pub dists : ds′ ≡ over (distsOf (roundOf root ls hs cs ws ds ps ms)) k ds₀
-  pub parents : ps′ ≡ over (parentsOf (roundOf root ls hs cs ws ds ps ms)) k ps₀
-  pub marks : ms′ ≡ over (marksOf (roundOf root ls hs cs ws ds ps ms)) k ms₀
+  part-nodes : (f : Cell → ℕ) → length (map f t) ≡ length ds
+  part-nodes f = part-length N (length ds) (cellsOf ds ps ms) f
 
-module _ (root : ℕ) (ls hs cs ws ds ps ms ds₀ ps₀ ms₀ : List ℕ) where
-  -- what the test f tells: nothing is written yet, all is written, and nothing will be
-  module _ {f : Bool} (told : f ≡ fits ls hs cs ds ps ms ds₀ ps₀ ms₀) where
-    pub up-start : f ≡ true → UpTo root ls hs cs ws ds ps ms ds₀ ps₀ ms₀ ds₀ ps₀ ms₀ 0
-    up-start e =
-        let t = fit-true ls hs cs ds ps ms ds₀ ps₀ ms₀ (sym told ∙ e) in
-        record { before = t; now = t; dists = refl; parents = refl; marks = refl }
+  pub round-start : Filled (distsOf t) (parentsOf t) (marksOf t) ds₀ ps₀ ms₀ ds₀ ps₀ ms₀ 0
+  round-start =
+      let d = part-nodes (λ (c : Cell). c .dist) in
+      let e = fit .second in
+      filled-start (distsOf t) (parentsOf t) (marksOf t) ds₀ ps₀ ms₀
+      (record {
+        table = (part-nodes (λ (c : Cell). c .parent) ∙ sym d, part-nodes (λ (c : Cell). c .mark) ∙ sym d);
+        second = (e .0 ∙ sym d, e .1 ∙ sym d, e .2 ∙ sym d);
+      })
 
-    pub round-written : f ≡ true → {ds′ ps′ ms′ : List ℕ} → Holds (roundOf root ls hs cs ws ds ps ms) ds′ ps′ ms′
-        → (true ≡ fits ls hs cs ds ps ms ds₀ ps₀ ms₀)
-        × Written (fits ls hs cs ds ps ms ds₀ ps₀ ms₀) (roundOf root ls hs cs ws ds ps ms) ds₀ ps₀ ms₀ ds′ ps′ ms′
-    round-written e {ds′} {ps′} {ms′} h =
-        (sym e ∙ told, written (fits ls hs cs ds ps ms ds₀ ps₀ ms₀) (roundOf root ls hs cs ws ds ps ms) ds₀ ps₀ ms₀ ds′ ps′ ms′ (sym told ∙ e) h)
+  module _ (ds′ ps′ ms′ : List ℕ) (k : ℕ) (u : Filled (distsOf t) (parentsOf t) (marksOf t) ds₀ ps₀ ms₀ ds′ ps′ ms′ k) where
+    -- the slices are as long as before
+    pub round-fits : Together ds ps ms ds′ ps′ ms′
+    round-fits =
+        let d = part-nodes (λ (c : Cell). c .dist) in
+        let e = u .now .second in
+        record { table = fit .table; second = (e .0 ∙ d, e .1 ∙ d, e .2 ∙ d) }
 
-    pub round-refused : f ≡ false
-        → (false ≡ fits ls hs cs ds ps ms ds₀ ps₀ ms₀)
-        × Written (fits ls hs cs ds ps ms ds₀ ps₀ ms₀) (roundOf root ls hs cs ws ds ps ms) ds₀ ps₀ ms₀ ds₀ ps₀ ms₀
-    round-refused e =
-        (sym e ∙ told, unwritten (fits ls hs cs ds ps ms ds₀ ps₀ ms₀) (roundOf root ls hs cs ws ds ps ms) ds₀ ps₀ ms₀ (sym told ∙ e))
-
-  module _ (ds′ ps′ ms′ : List ℕ) (k : ℕ) (u : UpTo root ls hs cs ws ds ps ms ds₀ ps₀ ms₀ ds′ ps′ ms′ k) where
-    abbrev N : Net
-    N = netOf (parkOf (length ds) root ls hs cs ws)
-
-    abbrev cell : Cell
-    cell = cellAfter root ls hs cs ws ds ps ms (k + 1)
-
-    pub up-next : k < length ds → (ds″ ps″ ms″ : List ℕ)
+    pub round-next : k < length ds → (ds″ ps″ ms″ : List ℕ)
         → (ds″ ≡ set ds′ k (cellAfter root ls hs cs ws ds ps ms (k + 1) .dist))
         × (ps″ ≡ set ps′ k (cellAfter root ls hs cs ws ds ps ms (k + 1) .parent))
         × (ms″ ≡ set ms′ k (cellAfter root ls hs cs ws ds ps ms (k + 1) .mark))
-        → UpTo root ls hs cs ws ds ps ms ds₀ ps₀ ms₀ ds″ ps″ ms″ (k + 1)
-    up-next h ds″ ps″ ms″ w =
-        let t = cellsOf ds ps ms in
-        let n = length ds in
-        let old = u .before .second in
-        let new = u .now .second in
-        record {
-          before = u .before;
-          now =
-              record {
-                links = u .now .links;
-                table = u .now .table;
-                second = (
-                  ap length (w .0) ∙ length-set ds′ k (cell .dist) ∙ new .0,
-                  ap length (w .1) ∙ length-set ps′ k (cell .parent) ∙ new .1,
-                  ap length (w .2) ∙ length-set ms′ k (cell .mark) ∙ new .2,
-                );
-              };
-          dists = w .0 ∙ part-next N n t (λ (x : Cell). x .dist) ds₀ (old .0) ds′ k (u .dists) h cell refl;
-          parents = w .1 ∙ part-next N n t (λ (x : Cell). x .parent) ps₀ (old .1) ps′ k (u .parents) h cell refl;
-          marks = w .2 ∙ part-next N n t (λ (x : Cell). x .mark) ms₀ (old .2) ms′ k (u .marks) h cell refl;
-        }
+        → Filled (distsOf t) (parentsOf t) (marksOf t) ds₀ ps₀ ms₀ ds″ ps″ ms″ (k + 1)
+    round-next h ds″ ps″ ms″ w =
+        let part : (f : Cell → ℕ) → f (cellAfter root ls hs cs ws ds ps ms (k + 1)) ≡ getD (map f t) k 0 =
+        λ f. sym (part-of N (length ds) (cellsOf ds ps ms) f k h) in
+        let l : k < length (distsOf t) = omega (arith, part-nodes (λ (c : Cell). c .dist)) in
+        subst₃ (λ (a b c : List ℕ). Filled (distsOf t) (parentsOf t) (marksOf t) ds₀ ps₀ ms₀ a b c (k + 1)) (sym (w .0)) (sym (w .1)) (sym (w .2))
+        (filled-next (distsOf t) (parentsOf t) (marksOf t) ds₀ ps₀ ms₀ ds′ ps′ ms′ k u l _ _ _
+        (part (λ (c : Cell). c .dist), part (λ (c : Cell). c .parent), part (λ (c : Cell). c .mark)))
 
-    pub up-all : length ds ≤ k → Holds (roundOf root ls hs cs ws ds ps ms) ds′ ps′ ms′
-    up-all h =
-        let t = cellsOf ds ps ms in
-        let old = u .before .second in
-        record {
-          dists = part-all N (length ds) t (λ (x : Cell). x .dist) ds₀ (old .0) ds′ k (u .dists) h;
-          parents = part-all N (length ds) t (λ (x : Cell). x .parent) ps₀ (old .1) ps′ k (u .parents) h;
-          marks = part-all N (length ds) t (λ (x : Cell). x .mark) ms₀ (old .2) ms′ k (u .marks) h;
-        }
+    pub round-all : length ds ≤ k → Holds t ds′ ps′ ms′
+    round-all h =
+        let l : length (distsOf t) ≤ k = omega (arith, part-nodes (λ (c : Cell). c .dist)) in
+        let e = filled-all (distsOf t) (parentsOf t) (marksOf t) ds₀ ps₀ ms₀ ds′ ps′ ms′ k u l in
+        record { dists = e .0; parents = e .1; marks = e .2 }

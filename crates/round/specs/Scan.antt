@@ -3,8 +3,8 @@
 use Prim.Native.Nat.{ℕ}
 use mathlib.Core.List.{List, [], _∷_}
 use Rattle.rule.specs.Round.{Link, Cell}
-use Rattle.keeping.specs.declared.Best.{Best}
-use Rattle.hearing.specs.Hear.{passed}
+use Rattle.round.specs.declared.keep.Best.{Best}
+use Rattle.round.specs.Hear.{passed}
 use Rattle.round.specs.declared.node.Stored.{Stored}
 
 -- what node i knows after the links ls

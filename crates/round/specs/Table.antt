@@ -3,7 +3,7 @@ use Prim.Native.Nat.{ℕ}
 use mathlib.Core.List.{List}
 use lib.ListN.{length}
 use Rattle.rule.specs.Round.{Cell, newCell, at, round, netOf}
-use Rattle.slices.specs.Slices.{cellsOf, parkOf}
+use Rattle.table.specs.Slices.{cellsOf, parkOf}
 
 -- what node i holds after one round of the park and the table that slices hold
 abbrev pub cellAfter : ℕ → List ℕ → List ℕ → List ℕ → List ℕ → List ℕ → List ℕ → List ℕ → ℕ → Cell

@@ -1,21 +1,22 @@
 // One node's turn: one search of the links for what its neighbours offer and ask, and from that the node's new cell.
 // The search reads a link's ends first, and goes on only where the node is one of them.
+use crate::hear::hear_arc;
+use crate::keep::Best;
 use group::is_member;
-use hearing::hear_link;
-use keeping::Best;
+use links::other_end;
+use links::touches;
 use measure::Cost;
+use table::shortest;
 ghost use mathlib.Core.Path.{_≡_};
 ghost use mathlib.Core.Bool.{_||_, cond};
-ghost use lib.Dec.{eqb};
 ghost use lib.ListN.{length};
 ghost use Rattle.measure.specs.Measure.{ceiling};
-ghost use Rattle.rule.specs.Round;
-ghost use Rattle.rule.specs.Round.{newCell, netOf};
 ghost use Rattle.group.specs.Group.{memberIn};
-ghost use Rattle.slices.specs.Slices.{linksOf, cellsOf, parkOf};
-ghost use Rattle.slices.specs.Reading.{nodeAt};
-ghost use Rattle.keeping.specs.Keep.{unheard};
+ghost use Rattle.table.specs.Slices.{linksOf};
+ghost use Rattle.table.specs.Nodes.{nodeAt};
+ghost use Rattle.round.specs.Keep.{unheard};
 ghost use Rattle.round.specs.Scan.{passedAll, cellOf};
+ghost use Rattle.round.specs.Table.{cellAfter};
 
 // What is stored for a node.
 pub struct Stored {
@@ -25,16 +26,6 @@ pub struct Stored {
     pub parent: u16,
     // The mark; zero is clear, all else set.
     pub mark: u8,
-}
-
-// Whether `node` is an end of a link. Most links are passed over by this test alone.
-fn touches(low: u16, high: u16, node: usize) -> bool
-    ensures { λ r. ⌜ r ≡ (eqb low node || eqb high node) ⌝ }
-{
-    if low as usize == node {
-        return true;
-    }
-    high as usize == node
 }
 
 // What `node` knows after all links.
@@ -47,8 +38,8 @@ pub(crate) fn pass_links(
     parents: &[u16],
     marks: &[u8],
 ) -> Best
-    requires { ⌜ (length (now highs) ≡ length (now lows)) × (length (now costs) ≡ length (now lows)) ⌝ }
-    ensures { λ r. ⌜ r ≡ passedAll (nodeAt ceiling (now (dists .entry))) (nodeAt 0 (now (parents .entry))) (nodeAt 0 (now (marks .entry))) node unheard (linksOf (now (lows .entry)) (now (highs .entry)) (now (costs .entry))) ⌝ }
+    ensures { λ r. ⌜ r ≡ passedAll (nodeAt ceiling (now (dists .entry))) (nodeAt 0 (now (parents .entry))) (nodeAt 0 (now (marks .entry)))
+        node unheard (linksOf (now (lows .entry)) (now (highs .entry)) (now (costs .entry))) ⌝ }
 {
     let mut best = Best {
         dist: Cost::CEILING,
@@ -56,14 +47,18 @@ pub(crate) fn pass_links(
         cost: Cost(0),
         asked: false,
     };
+    let end = shortest(lows.len(), highs.len(), costs.len());
     let mut at = 0;
-    while at < lows.len() {
+    while at < end {
         let place = at;
         at += 1;
         let low = lows[place];
         let high = highs[place];
         if touches(low, high, node) {
-            best = hear_link(best, node, low, high, costs[place], dists, parents, marks);
+            let from = other_end(low, high, node);
+            if from != 0 {
+                best = hear_arc(best, node, from, costs[place], dists, parents, marks);
+            }
         }
     }
     best
@@ -94,9 +89,9 @@ pub(crate) fn new_cell(
     parents: &[u16],
     marks: &[u8],
 ) -> Stored
-    requires { ⌜ (length (now highs) ≡ length (now lows)) × (length (now costs) ≡ length (now lows)) ⌝ }
     requires { ⌜ (length (now parents) ≡ length (now dists)) × (length (now marks) ≡ length (now dists)) ⌝ }
-    ensures { λ r. ⌜ cellOf r ≡ newCell (netOf (parkOf (length (now (dists .entry))) root (now (lows .entry)) (now (highs .entry)) (now (costs .entry)) (now (words .entry)))) (Round.at (cellsOf (now (dists .entry)) (now (parents .entry)) (now (marks .entry)))) node ⌝ }
+    ensures { λ r. ⌜ cellOf r ≡ cellAfter root (now (lows .entry)) (now (highs .entry)) (now (costs .entry)) (now (words .entry))
+        (now (dists .entry)) (now (parents .entry)) (now (marks .entry)) node ⌝ }
 {
     let best = pass_links(node, lows, highs, costs, dists, parents, marks);
     let mark = new_mark(words, node, best.asked);

@@ -5,14 +5,14 @@ use mathlib.Core.Path.{_≡_}
 use mathlib.Core.Bool.{cond}
 use mathlib.Core.List.{List, [], _∷_, List·Memᴰ}
 use lib.Dec.{T, ltb}
-use Rattle.measure.specs.Measure.{ceiling, largestCost}
+use Rattle.measure.specs.Measure.{ceiling, largestCost, mostNodes}
 use Rattle.rule.specs.Round.{Cell, Link, Park, at, rounds, netOf}
 use Rattle.rule.specs.Exact.{Node}
 
 -- "Nodes 1 to n, with n from 1 to 256. One node is the root. Links, each between two different nodes, with one cost from 1 to 65,535.
 -- The group: any set of nodes." Neither the number nor the order of the links matters, nor that a pair has one link.
 pub record ParkOk (p : Park) : Type 0 where
-  pub few : p .nodes ≤ 256
+  pub few : p .nodes ≤ mostNodes
   pub root : Node p (p .root)
   pub low : (l : Link) → List·Memᴰ l (p .links) → Node p (l .low)
   pub high : (l : Link) → List·Memᴰ l (p .links) → Node p (l .high)

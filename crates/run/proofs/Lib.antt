@@ -1,3 +1,2 @@
-pub mod RoomLaws
-pub mod StepLaws
-pub mod RunLaws
+pub mod RunFileLaws
+pub mod RunTheorems

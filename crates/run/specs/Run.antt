@@ -1,35 +1,45 @@
--- A run of document 01: "do rounds until N are done or the next would change nothing. Answers the rounds done and whether it is quiet, that is
--- whether one more round would leave every stored value as it is."
-use Prim.Native.Nat.{ℕ, zero, suc}
-use mathlib.Core.Bool.{Bool, true, false}
+-- Run of document 01: "Run with a count N from 0 to 16,777,217: do rounds until N are done or the next would change nothing."
+-- Counts are in rounds, sizes and places in bytes.
+use Prim.Native.Nat.{ℕ}
 use mathlib.Core.List.{List}
+use mathlib.Core.Bool.{Bool, _||_}
+use lib.Dec.{leb, ltb}
 use lib.ListN.{length}
-use Rattle.rule.specs.Round.{Net, Cell, round, netOf}
-use Rattle.slices.specs.Slices.{cellsOf, parkOf}
-use Rattle.comparing.specs.Same.{sameTable}
-use Rattle.run.specs.declared.Ran.{Ran}
+use Rattle.measure.specs.Measure.{mostRounds}
+use Rattle.rule.specs.Round.{netOf}
+use Rattle.answers.specs.declared.refusal.Verdict.{Verdict}
+use Rattle.park.specs.ParkFile.{ParkFile, parkIn, encode, withState}
+use Rattle.answers.specs.Verdicts.{unless, _then_, byVerdict}
+use Rattle.park.specs.Reading.{verdictOf, fileIn}
+use Rattle.answers.specs.declared.refusal.Refusal.the-variants.{Count, Unsettled}
+use Rattle.area.specs.Area.{roomFor}
+use Rattle.round.specs.Run.{RunEnd, runOf}
+use Rattle.answers.specs.declared.RunAnswer as answer
 
--- "quiet, that is whether one more round would leave every stored value as it is"
-unfoldable pub quiet : Net → ℕ → List Cell → Bool
-quiet N n t = sameTable (round N n t) t
+-- "do rounds until N are done or the next would change nothing": the rounds done, whether it is quiet, and the table
+unfoldable pub endOf : ParkFile → ℕ → RunEnd
+endOf f N = runOf (netOf (parkIn f)) (f .nodes) N 0 (f .state)
 
--- what a run comes to: the count of rounds done, whether it is quiet, and the table
-pub record Outcome : Type 0 where
-  pub rounds : ℕ
-  pub quiet : Bool
-  pub table : List Cell
+-- what is told of a file of so many bytes before a round is done: "N above 16,777,217" is 10, and no room for the file is 9
+unfoldable pub readyFor : ℕ → ℕ → ℕ → ℕ → Verdict
+readyFor N size area place = unless (leb N mostRounds) Count then roomFor size area place
 
--- "do rounds until N are done or the next would change nothing": from the table t, with `done` rounds done and `left` of them still allowed
-unfoldable pub runOf : Net → ℕ → ℕ → ℕ → List Cell → Outcome
-runOf N n zero done t = record { rounds = done; quiet = quiet N n t; table = t }
-runOf N n (suc left) done t =
-    elim (quiet N n t) [ true ↦ record { rounds = done; quiet = true; table = t } | false ↦ runOf N n left (suc done) (round N n t) ]
+-- "N is 16,777,217 and the table is not quiet after those rounds" is 11
+abbrev pub restFor : ℕ → Bool → Verdict
+restFor N quiet = unless (ltb N mostRounds || quiet) Unsettled
 
--- the run from the table that slices hold, in the park that they hold
-abbrev pub runFrom : ℕ → ℕ → ℕ → List ℕ → List ℕ → List ℕ → List ℕ → List ℕ → List ℕ → List ℕ → Outcome
-runFrom left done root ls hs cs ws ds ps ms = runOf (netOf (parkOf (length ds) root ls hs cs ws)) (length ds) left done (cellsOf ds ps ms)
+-- the refusals in their order: the file's own, then 10, 9, 11
+unfoldable pub runVerdict : List ℕ → ℕ → ℕ → ℕ → Verdict
+runVerdict s N area place = verdictOf s then readyFor N (length s) area place then restFor N (endOf (fileIn s) N .quiet)
 
--- the answer of a run: over slices that are no park's no round is done
-abbrev pub ranOf : Bool → Outcome → Ran
-ranOf true o = record { fit = true; rounds = record { 0 = o .rounds }; quiet = o .quiet }
-ranOf false o = record { fit = false; rounds = record { 0 = 0 }; quiet = false }
+-- "The new file, of the same length": the same park with the table that the run came to
+unfoldable pub runFile : List ℕ → ℕ → List ℕ
+runFile s N = encode (withState (fileIn s) (endOf (fileIn s) N .table))
+
+-- "Answers the rounds done and whether it is quiet"
+abbrev pub answerOf : RunEnd → answer.RunAnswer
+answerOf o = answer.the-variants.Done (record { 0 = o .rounds }) (o .quiet)
+
+-- what Run answers for a file, a count and an area of so many bytes
+unfoldable pub runAnswer : List ℕ → ℕ → ℕ → ℕ → answer.RunAnswer
+runAnswer s N area place = byVerdict (runVerdict s N area place) (answerOf (endOf (fileIn s) N)) answer.the-variants.Refused

@@ -1,133 +1,131 @@
-// A run: rounds over lent slices until a given count is done or the next would change nothing. The table stays where it is lent; the next
-// round is made in room of the run's own, and no table is copied by value.
-mod copy;
+// Run: rounds over a park file, as a new file in a lent area. The file is read, and module allowed tells what else is refused before
+// and after the rounds; between them the file is taken apart and the rounds are done on slices. The area is written last of all.
+// Counts are in rounds, sizes and places in bytes.
+mod allowed;
 
-use comparing::same;
-use copy::copy8;
-use copy::copy16;
-use copy::copy32;
+use answers::Head;
+use answers::ReadAnswer;
+use answers::RunAnswer;
+use answers::refusal::Verdict;
+use area::state::put_with_state;
+use measure::LINKS;
+use measure::NODES;
 use measure::Rounds;
-use round::one_round;
-use tables::both;
+use reader::apart::take_park;
+use reader::apart::take_state;
+use round::rounds::Ran;
 ghost use mathlib.Core.Path.{_≡_};
-ghost use mathlib.Core.Bool.{_&&_, _||_};
-ghost use lib.Dec.{eqb, leb};
+ghost use Prim.Native.Nat.{ℕ};
+ghost use mathlib.Core.List.{List};
 ghost use lib.ListN.{length};
-ghost use Rattle.tables.specs.Fit.{even, Written, ready};
-ghost use Rattle.run.specs.Run.{runFrom, ranOf};
+ghost use Rattle.answers.specs.declared.refusal.Verdict.the-variants.{Fine};
+ghost use Rattle.park.specs.Reading.{ReadAs, fileIn, nodesIn};
+ghost use Rattle.table.specs.Fit.{Holds};
+ghost use Rattle.round.specs.Run.{RunEnd, ranOf};
+ghost use Rattle.area.specs.Area.{roomFor, areaWith};
+ghost use Rattle.run.specs.Run.{endOf, runVerdict, runFile, runAnswer};
+ghost use Rattle.run.specs.Ends.{Ends};
 
-// The most nodes of a park, in nodes.
-const NODES: usize = 256;
-
-// What a run answers.
-pub struct Ran {
-    // Whether the slices belong together and are of no more nodes than a park has; if not, nothing is done.
-    pub fit: bool,
-    // The rounds done, in rounds.
-    pub rounds: Rounds,
-    // Whether one more round would change nothing.
-    pub quiet: bool,
-}
-
-// Whether there is room to run: the parts of the links are equally long, as `links` says, those of the table too, and there are at most 256
-// nodes.
-fn has_room(links: bool, n: usize, parents: usize, marks: usize) -> bool
-    ensures { λ r. ⌜ r ≡ (links && (even n parents marks && leb n 256)) ⌝ }
-{
-    if links {
-        if both(n, parents, marks) {
-            return n <= NODES;
-        }
-    }
-    false
-}
-
-// Whether a run ends here: the next round would change nothing, or no round is left.
-fn ends(quiet: bool, left: u32) -> bool
-    ensures { λ r. ⌜ r ≡ (quiet || eqb left 0) ⌝ }
-{
-    if quiet {
-        return true;
-    }
-    left == 0
-}
-
-// A run's answer.
-fn answer(fit: bool, done: u32, quiet: bool) -> Ran
-    ensures { λ r. ⌜ r ≡ record { fit = fit; rounds = record { 0 = done }; quiet = quiet } ⌝ }
-{
-    Ran {
-        fit,
-        rounds: Rounds(done),
-        quiet,
-    }
-}
-
-// Rounds from the stored table until `count` rounds are done or the next would change nothing, in the three slices of the table. Slices that
-// do not belong together, or are of more than 256 nodes, are left as they are. A turn is one round, one comparison and, unless it is the last,
-// one copy. Distances and costs are in cost units, `root` and parents are node numbers.
-pub fn run(
+// Takes a file that was read apart and does the rounds: the table that the run comes to is left in the three lent slices.
+fn run_apart(
+    file: &[u8],
+    head: Head,
     count: Rounds,
-    root: u16,
-    lows: &[u16],
-    highs: &[u16],
-    costs: &[u16],
-    words: &[u64],
     dists: &mut [u32],
     parents: &mut [u16],
     marks: &mut [u8],
 ) -> Ran
-    ensures { λ r. ⌜ r ≡ ranOf
-        (ready (length (now (lows .entry))) (length (now (highs .entry))) (length (now (costs .entry)))
-        (length (now (dists .entry))) (length (now (parents .entry))) (length (now (marks .entry))))
-        (runFrom (count .0) 0 root (now (lows .entry)) (now (highs .entry)) (now (costs .entry)) (now (words .entry))
-        (now (dists .entry)) (now (parents .entry)) (now (marks .entry))) ⌝ }
-    ensures { λ _. ⌜ Written
-        (ready (length (now (lows .entry))) (length (now (highs .entry))) (length (now (costs .entry)))
-        (length (now (dists .entry))) (length (now (parents .entry))) (length (now (marks .entry))))
-        (runFrom (count .0) 0 root (now (lows .entry)) (now (highs .entry)) (now (costs .entry)) (now (words .entry))
-        (now (dists .entry)) (now (parents .entry)) (now (marks .entry)) .table)
-        (now (dists .entry)) (now (parents .entry)) (now (marks .entry))
-        (now (dists .exit)) (now (parents .exit)) (now (marks .exit)) ⌝ }
+    requires { ⌜ ReadAs (now file) head ⌝ }
+    requires { ⌜ (length (now dists) ≡ nodesIn (now file))
+        × (length (now parents) ≡ nodesIn (now file))
+        × (length (now marks) ≡ nodesIn (now file)) ⌝ }
+    ensures { λ r.
+        let end : RunEnd = endOf (fileIn (now (file .entry))) (count .0) in
+        ⌜ (r ≡ ranOf end) × Holds (end .table) (now (dists .exit)) (now (parents .exit)) (now (marks .exit)) ⌝ }
 {
-    let n = dists.len();
-    let links = both(lows.len(), highs.len(), costs.len());
-    if !has_room(links, n, parents.len(), marks.len()) {
-        return answer(false, 0, false);
+    let l = wire::wide(head.links);
+    let mut lows = [0u16; LINKS];
+    let mut highs = [0u16; LINKS];
+    let mut costs = [0u16; LINKS];
+    let mut words = [0u64; 4];
+    take_park(
+        file,
+        head.links,
+        &mut lows,
+        &mut highs,
+        &mut costs,
+        &mut words,
+    );
+    take_state(file, head.nodes, head.links, dists, parents, marks);
+    round::rounds::run(
+        count,
+        head.root,
+        &lows[..l],
+        &highs[..l],
+        &costs[..l],
+        &words,
+        dists,
+        parents,
+        marks,
+    )
+}
+
+// The run of a file that was read and for which the area has room: the new file is put into the area at the very end, unless the
+// table is still not quiet after the largest count of rounds.
+fn run_read(file: &[u8], head: Head, count: Rounds, area: &mut [u8], place: usize) -> RunAnswer
+    requires { ⌜ ReadAs (now file) head × (roomFor (length (now file)) (length (now area)) place ≡ Fine) ⌝ }
+    ensures { λ r. ⌜ Ends r (now (file .entry)) (count .0) (now (area .entry)) place (now (area .exit)) ⌝ }
+{
+    let n = wire::wide(head.nodes);
+    let mut dists = [0u32; NODES];
+    let mut parents = [0u16; NODES];
+    let mut marks = [0u8; NODES];
+    let ran = run_apart(
+        file,
+        head,
+        count,
+        &mut dists[..n],
+        &mut parents[..n],
+        &mut marks[..n],
+    );
+    let found = allowed::unsettled(count, ran.quiet);
+    if let Verdict::Refused(r) = found {
+        return RunAnswer::Refused(r);
     }
-    let mut next_dists = [0u32; NODES];
-    let mut next_parents = [0u16; NODES];
-    let mut next_marks = [0u8; NODES];
-    let mut left = count.0;
-    let mut done: u32 = 0;
-    loop {
-        let old_dists: &[u32] = dists;
-        let old_parents: &[u16] = parents;
-        let old_marks: &[u8] = marks;
-        one_round(
-            root,
-            lows,
-            highs,
-            costs,
-            words,
-            old_dists,
-            old_parents,
-            old_marks,
-            &mut next_dists[..n],
-            &mut next_parents[..n],
-            &mut next_marks[..n],
-        );
-        let dists2 = &next_dists[..n];
-        let parents2 = &next_parents[..n];
-        let marks2 = &next_marks[..n];
-        let quiet = same(dists2, parents2, marks2, old_dists, old_parents, old_marks);
-        if ends(quiet, left) {
-            return answer(true, done, quiet);
+    put_with_state(
+        file,
+        head.links,
+        &dists[..n],
+        &parents[..n],
+        &marks[..n],
+        area,
+        place,
+    );
+    let rounds = ran.rounds;
+    RunAnswer::Done {
+        rounds,
+        quiet: ran.quiet,
+    }
+}
+
+// Does rounds from the state of a file until `count` are done or the next would change nothing, and puts the new file, of
+// the same length, into the lent area from a place on; bytes before and after it stay. A refusal leaves the area as it is.
+pub fn run(file: &[u8], count: Rounds, area: &mut [u8], place: usize) -> RunAnswer
+    ensures answered { λ r. ⌜ r ≡ runAnswer (now (file .entry)) (count .0) (length (now (area .entry))) place ⌝ }
+    ensures written { λ _.
+        let s : List ℕ = now (file .entry) in
+        let old : List ℕ = now (area .entry) in
+        ⌜ now (area .exit) ≡ areaWith (runVerdict s (count .0) (length old) place) (runFile s (count .0)) place old ⌝ }
+{
+    let found = reader::read(file);
+    match found {
+        ReadAnswer::Refused(r) => RunAnswer::Refused(r),
+        ReadAnswer::Park(head) => {
+            let allowed = allowed::ready(count, file.len(), area.len(), place);
+            if let Verdict::Refused(r) = allowed {
+                return RunAnswer::Refused(r);
+            }
+            run_read(file, head, count, area, place)
         }
-        copy32(dists2, dists);
-        copy16(parents2, parents);
-        copy8(marks2, marks);
-        left -= 1;
-        done += 1;
     }
 }

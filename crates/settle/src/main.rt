@@ -1,4 +1,4 @@
-// settle: prints the settled table of the park file on standard input; crate settling has what it does.
+// settle: prints the settled table of the park file on standard input; room console has what it does.
 fn main() {
-    settling::settle_input();
+    console::settle_input();
 }

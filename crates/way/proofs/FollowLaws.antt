@@ -7,8 +7,8 @@ use native.Mathlib.Numerals.{add-one}
 use native.Mathlib.Omega.{arith}
 use borrow.Author.Tests.{eq-eqb, ne-eqb}
 use Rattle.rule.specs.Round.{Link}
-use Rattle.neighbours.specs.Neighbours.{neighbour}
-use Rattle.way.specs.declared.Outcome.the-variants.{Reached, Broken, Looping}
+use Rattle.links.specs.Neighbours.{neighbour}
+use Rattle.answers.specs.declared.Outcome.the-variants.{Reached, Broken, Looping}
 use Rattle.way.specs.Way.{followed}
 
 module _ (root : ℕ) (ls : List Link) (Q : ℕ → ℕ) (left hops i : ℕ) where

@@ -1,3 +1,5 @@
 pub mod FollowLaws
 pub mod SlicesLaws
 pub mod WayLaws
+pub mod WayFileLaws
+pub mod ExactLaws

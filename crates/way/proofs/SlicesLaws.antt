@@ -8,11 +8,11 @@ use native.Mathlib.Omega.{arith}
 use lib.ListN.{length}
 use lib.Dec.{eqb}
 use Rattle.rule.specs.Round.{Arc, Cell, Link, at, arcsOf}
-use Rattle.slices.specs.Slices.{linksOf, cellsOf, parkOf}
-use Rattle.slices.specs.Reading.{nodeAt}
-use Rattle.slices.proofs.TableLaws.{slices, part-at}
-use Rattle.neighbours.specs.Neighbours.{endsOf, hears, neighbour}
-use Rattle.way.specs.Way.{followed, wayOf, parkWay, nodesIn}
+use Rattle.table.specs.Slices.{linksOf, cellsOf, parkOf}
+use Rattle.table.specs.Nodes.{nodeAt}
+use Rattle.table.proofs.TableLaws.{slices, part-at}
+use Rattle.links.specs.Neighbours.{endsOf, hears, neighbour}
+use Rattle.way.specs.Way.{followed, wayOf, parkWay, nodesOver}
 
 -- the parent that the rule reads in the table that three slices hold
 pub parent-in-table : (ds ps ms : List ℕ) → length ds ≡ length ps → length ms ≡ length ps → (i : ℕ) → at (cellsOf ds ps ms) i .parent ≡ nodeAt 0 ps i
@@ -52,8 +52,8 @@ module _ (root : ℕ) (ls ms : List Link) (P Q : ℕ → ℕ) (near : (i q : ℕ
 -- the way over lent slices, in the park and the table that they hold
 pub way-in-park : (root : ℕ) (lows highs costs words ds ps ms : List ℕ) (i : ℕ)
     → length lows ≤ length costs → length ds ≡ length ps → length ms ≡ length ps → length ps ≤ 65_535
-    → wayOf root (endsOf lows highs) (nodeAt 0 ps) (nodesIn ps) i ≡ parkWay (parkOf (length ps) root lows highs costs words) (cellsOf ds ps ms) i
+    → wayOf root (endsOf lows highs) (nodeAt 0 ps) (nodesOver ps) i ≡ parkWay (parkOf (length ps) root lows highs costs words) (cellsOf ds ps ms) i
 unfolding wayOf parkWay parkOf
 way-in-park root lows highs costs words ds ps ms i hc hd hm few =
-    let n : nodesIn ps ≡ length ps = omega arith in
+    let n : nodesOver ps ≡ length ps = omega arith in
     rw (n, followed-same root (linksOf lows highs costs) (endsOf lows highs) (λ j. at (cellsOf ds ps ms) j .parent) (nodeAt 0 ps) (neighbour-in-links lows highs costs hc) (parent-in-table ds ps ms hd hm) (length ps) 0 i)

@@ -19,8 +19,8 @@ use Rattle.rule.proofs.MarkLaws.{child-farther}
 use Rattle.rule.proofs.HopsLaws.{nearer, nearer-falls, nearer-few}
 use Rattle.rule.proofs.RoundsLaws.{still-exact}
 use Rattle.rule.proofs.Demand3.{exact-still}
-use Rattle.neighbours.specs.Neighbours.{hears, neighbour}
-use Rattle.way.specs.declared.Outcome.the-variants.{Reached}
+use Rattle.links.specs.Neighbours.{hears, neighbour}
+use Rattle.answers.specs.declared.Outcome.the-variants.{Reached}
 use Rattle.way.specs.Way.{followed, wayOf, parkWay}
 
 -- the sender of an arc among those that are heard is heard

@@ -1,86 +1,64 @@
-// The way of a node: where following stored parents leads, over lent slices of plain numbers. Links are two slices, the lower
-// ends and the higher ends, and parents one, node 1's first. Nothing is refused: every number has a way, also one that is no node.
-use measure::Hops;
-use neighbours::is_neighbour;
-use slices::parent_at;
+// Way: where following the stored parents of a park file leads from a node. The file is read, its links and its state are taken
+// apart into local arrays, and the way is followed there. Nothing is written.
+mod steps;
+
+use answers::Head;
+use answers::ReadAnswer;
+use answers::WayAnswer;
+use answers::WayOfNode;
+use answers::refusal::Refusal;
+use measure::LINKS;
+use measure::NODES;
+use reader::apart::take_links;
+use reader::apart::take_state;
 ghost use mathlib.Core.Path.{_≡_};
-ghost use Prim.Native.Nat.{_+_, _≤_};
-ghost use Rattle.slices.specs.Reading.{nodeAt};
-ghost use Rattle.neighbours.specs.Neighbours.{endsOf};
-ghost use Rattle.way.specs.Way.{nodesIn, followed, wayOf};
+ghost use Prim.Native.Nat.{ℕ};
+ghost use mathlib.Core.List.{List};
+ghost use Rattle.park.specs.ParkFile.{parkIn};
+ghost use Rattle.park.specs.Reading.{ReadAs, fileIn};
+ghost use Rattle.way.specs.Way.{parkWay, wayAnswer};
 
-// Where following parents led.
-pub enum Outcome {
-    // The root was met, after so many hops.
-    Reached(Hops),
-    // The node, by its number, whose parent is not one of its neighbours.
-    Broken(u16),
-    // As many hops as there are nodes have met neither.
-    Looping,
-}
-
-// The node asked about, by its number, and where its way led.
-pub struct Way {
-    pub node: u16,
-    pub outcome: Outcome,
-}
-
-// The stored parent of `node`, both by number; 0 for a number that is no node.
-pub(crate) fn parent(parents: &[u16], node: u16) -> u16
-    ensures { λ r. ⌜ r ≡ nodeAt 0 (now (parents .entry)) node ⌝ }
+// The way of a node of a file that was read.
+fn way_in(file: &[u8], head: Head, node: u16) -> WayOfNode
+    requires { ⌜ ReadAs (now file) head ⌝ }
+    ensures { λ r. let s : List ℕ = now (file .entry) in ⌜ r ≡ parkWay (parkIn (fileIn s)) (fileIn s .state) node ⌝ }
 {
-    parent_at(parents, node as usize)
+    let n = wire::wide(head.nodes);
+    let l = wire::wide(head.links);
+    let mut lows = [0u16; LINKS];
+    let mut highs = [0u16; LINKS];
+    let mut costs = [0u16; LINKS];
+    let mut dists = [0u32; NODES];
+    let mut parents = [0u16; NODES];
+    let mut marks = [0u8; NODES];
+    take_links(file, head.links, &mut lows, &mut highs, &mut costs);
+    take_state(
+        file,
+        head.nodes,
+        head.links,
+        &mut dists,
+        &mut parents,
+        &mut marks,
+    );
+    steps::way_of(head.root, &lows[..l], &highs[..l], &parents[..n], node)
 }
 
-// As many hops as there are nodes.
-pub(crate) fn most(parents: &[u16]) -> Hops
-    ensures { λ r. ⌜ r .0 ≡ nodesIn (now (parents .entry)) ⌝ }
+// The way of a node, by its number, by the links and the stored parents of a file; or the refusal of the file, or that it
+// has no such node.
+pub fn way(file: &[u8], node: u16) -> WayAnswer
+    ensures { λ r. ⌜ r ≡ wayAnswer (now (file .entry)) node ⌝ }
 {
-    if parents.len() < 65535 {
-        return Hops(parents.len() as u32);
+    let found = reader::read(file);
+    match found {
+        ReadAnswer::Refused(r) => WayAnswer::Refused(r),
+        ReadAnswer::Park(head) => {
+            if node < 1 {
+                return WayAnswer::Refused(Refusal::Node);
+            }
+            if head.nodes < node {
+                return WayAnswer::Refused(Refusal::Node);
+            }
+            WayAnswer::Told(way_in(file, head, node))
+        }
     }
-    Hops(65535)
-}
-
-// Where the way goes on from `node`, with the hops still allowed and the hops done, which together never pass 65,535.
-fn follow(
-    root: u16,
-    lows: &[u16],
-    highs: &[u16],
-    parents: &[u16],
-    left: Hops,
-    done: Hops,
-    node: u16,
-) -> Outcome
-    requires { ⌜ left .0 + done .0 ≤ 65535 ⌝ }
-    ensures { λ r. ⌜ r ≡ followed root (endsOf (now (lows .entry)) (now (highs .entry))) (nodeAt 0 (now (parents .entry))) (left .0) (done .0) node ⌝ }
-{
-    if node == root {
-        return Outcome::Reached(done);
-    }
-    if left.0 == 0 {
-        return Outcome::Looping;
-    }
-    let next = parent(parents, node);
-    if is_neighbour(lows, highs, node, next) {
-        return follow(
-            root,
-            lows,
-            highs,
-            parents,
-            Hops(left.0 - 1),
-            Hops(done.0 + 1),
-            next,
-        );
-    }
-    Outcome::Broken(node)
-}
-
-// The way of `node`: the hops to the root, the node where the way breaks, or that it loops. The root, the ends and the
-// parents are node numbers.
-pub fn way_of(root: u16, lows: &[u16], highs: &[u16], parents: &[u16], node: u16) -> Way
-    ensures { λ r. ⌜ r ≡ wayOf root (endsOf (now (lows .entry)) (now (highs .entry))) (nodeAt 0 (now (parents .entry))) (nodesIn (now (parents .entry))) node ⌝ }
-{
-    let outcome = follow(root, lows, highs, parents, most(parents), Hops(0), node);
-    Way { node, outcome }
 }

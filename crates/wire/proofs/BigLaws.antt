@@ -7,7 +7,7 @@ use native.Mathlib.Numerals.{add-one}
 use native.Mathlib.Omega.{arith}
 use lib.ListN.{length, getD, set, take, drop, length-append, List·getD-eq-default, List·getD-append, length-drop}
 use lib.Seq.{sets, take-suc, getD-drop, getD-append-add, take-at, drop-at}
-use Rattle.lent.proofs.StoreLaws.{put-both}
+use Rattle.wire.proofs.StoreLaws.{put-both}
 use Rattle.wire.specs.Big.{Bytes, big, bytesOf}
 
 -- a number that starts outside the list is 0
@@ -17,10 +17,6 @@ big-out zero s i h = refl
 big-out (suc k) s i h =
     let low : getD s (i + k) 0 ≡ 0 = List·getD-eq-default s 0 (omega arith) in
     simp (big-out k s i h, low)
-
-pub big-one : (s : List ℕ) (i : ℕ) → big 1 s i ≡ getD s i 0
-unfolding big
-big-one s i = simp (add-zero, zero-add)
 
 pub big-two : (s : List ℕ) (i : ℕ) → big 2 s i ≡ getD s i 0 * 256 + getD s (i + 1) 0
 unfolding big

@@ -1,1 +1,2 @@
+pub mod StoreLaws
 pub mod BigLaws

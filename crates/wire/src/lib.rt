@@ -1,5 +1,7 @@
 // Big-endian numbers of 16 and 32 bits in lent bytes. Every call is total: a byte outside the slice is read as 0, and
 // one that would be written there is dropped. Places are in bytes from the slice's start.
+pub mod bytes;
+
 ghost use mathlib.Core.Path.{_≡_};
 ghost use Prim.Native.Nat.{_<_};
 ghost use lib.Seq.{sets};
@@ -20,7 +22,7 @@ pub fn big16(s: &[u8], place: usize) -> u16
         return 0;
     }
     let high = s[place] as u16;
-    let low = lent::byte_at(s, place + 1) as u16;
+    let low = crate::bytes::byte_at(s, place + 1) as u16;
     high * 256 + low
 }
 
@@ -51,7 +53,7 @@ pub fn put16(s: &mut [u8], place: usize, x: u16)
         return;
     }
     s[place] = (x / 256 % 256) as u8;
-    lent::put_byte(s, place + 1, (x % 256) as u8);
+    crate::bytes::put_byte(s, place + 1, (x % 256) as u8);
 }
 
 // Puts a 32-bit number at a place, in bytes.

@@ -1,10 +1,10 @@
--- `cface::chandvreksh_exact` meets its contract: what the call answers is told in numbers, and the area is as it leaves it.
+-- What the call answers is told in numbers, and the area is as it leaves it.
 use borrow.Author.Needs.{needs}
 use Rattle.cface.proofs.chandvreksh_exact.Statement.{statement}
 use Rattle.cface.proofs.chandvreksh_exact.Tie as tie
 
-exact-file-requires : tie.Need-exact-file-requires
-exact-file-requires c κs = tt
+exact-requires : tie.Need-exact-requires
+exact-requires c κs = tt
 
 exact-values-requires : tie.Need-exact-values-requires
 exact-values-requires c κs = tt
@@ -13,7 +13,7 @@ same-length : tie.Need-same-length
 same-length c = search needs
 
 returns : tie.Need-returns
-returns c = (_, c .before .before .before .exact-file .ensures, c .exact-values .ensures)
+returns c = (_, c .before .before .before .exact .ensures, c .exact-values .ensures)
 
 pub chandvreksh-exact-spec : {M : Type 1} → statement M
-chandvreksh-exact-spec = tie.close (tie.spec exact-file-requires exact-values-requires same-length returns)
+chandvreksh-exact-spec = tie.close (tie.spec exact-requires exact-values-requires same-length returns)

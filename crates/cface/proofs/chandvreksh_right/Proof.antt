@@ -1,4 +1,4 @@
--- `cface::chandvreksh_right` meets its contract: what the call answers is told in numbers.
+-- What the call answers is told in numbers.
 use Rattle.cface.proofs.chandvreksh_right.Statement.{statement}
 use Rattle.cface.proofs.chandvreksh_right.Tie as tie
 

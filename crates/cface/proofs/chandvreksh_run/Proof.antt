@@ -1,4 +1,4 @@
--- `cface::chandvreksh_run` meets its contract: what the call answers is told in numbers, and the area is as it leaves it.
+-- What the call answers is told in numbers, and the area is as it leaves it.
 use mathlib.Core.Path.{ap, _∙_}
 use Rattle.answers.specs.Values.{runValues}
 use borrow.Author.Needs.{needs}

@@ -1,17 +1,17 @@
--- `cface::chandvreksh_way` meets its contract: what the call answers is told in numbers.
+-- What the call answers is told in numbers.
 use mathlib.Core.Path.{ap, _∙_}
 use Rattle.answers.specs.Values.{wayValues}
 use Rattle.cface.proofs.chandvreksh_way.Statement.{statement}
 use Rattle.cface.proofs.chandvreksh_way.Tie as tie
 
-way-of-node-requires : tie.Need-way-of-node-requires
-way-of-node-requires c κs = tt
+way-requires : tie.Need-way-requires
+way-requires c κs = tt
 
 way-values-requires : tie.Need-way-values-requires
 way-values-requires c κs = tt
 
 returns : tie.Need-returns
-returns c = c .way-values .ensures ∙ ap wayValues (c .before .way-of-node .ensures)
+returns c = c .way-values .ensures ∙ ap wayValues (c .before .way .ensures)
 
 pub chandvreksh-way-spec : {M : Type 1} → statement M
-chandvreksh-way-spec = tie.close (tie.spec way-of-node-requires way-values-requires returns)
+chandvreksh-way-spec = tie.close (tie.spec way-requires way-values-requires returns)

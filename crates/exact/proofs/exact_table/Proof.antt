@@ -1,24 +1,57 @@
--- `exact::exact_table` meets its contract: slices that belong together get distances, parents by them and marks by those; any other are left alone.
-use lib.ListN.{length}
-use Rattle.exact.proofs.TableFoundLaws.{links-even, found-all, found-none, found-not}
+-- The first parts of the arrays hold the links that the head says, so what is found in them is found for the file.
+use native.Mathlib.Omega.{arith}
+use Prim.Native.Nat.{_≤_}
+use mathlib.Core.Path.{sym}
+use lib.Seq.{length-take-le}
+use Rattle.exact.proofs.ExactFileLaws.{found-here}
 use borrow.Author.Needs.{needs}
 use Rattle.exact.proofs.exact_table.Statement.{statement}
 use Rattle.exact.proofs.exact_table.Tie as tie
 
-both-requires : tie.Need-both-requires
-both-requires c κs = tt
+within-requires : tie.Need-within-requires
+within-requires c κs = tt
 
-find-dists-requires : tie.Need-find-dists-requires
-find-dists-requires c κs = tt
+wide-requires : tie.Need-wide-requires
+wide-requires c κs = tt
 
-find-parents-requires : tie.Need-find-parents-requires
-find-parents-requires c κs =
-    let dists = c .before .before .before .before .before in
-    let a = dists .before .before .before .before .before .before .before .before .before .before .before .args in
-    links-even (length (a .lows .now)) (length (a .highs .now)) (length (a .costs .now)) (length (a .dists .now)) _ (dists .find-dists .ensures .0) (c .before .before .if2 .taken)
+slice-aggregate-take-park : tie.Need-slice-aggregate-take-park
+slice-aggregate-take-park c = search needs
 
-find-marks-requires : tie.Need-find-marks-requires
-find-marks-requires c κs = tt
+slice-aggregate-take-park-2 : tie.Need-slice-aggregate-take-park-2
+slice-aggregate-take-park-2 c = search needs
+
+slice-aggregate-take-park-3 : tie.Need-slice-aggregate-take-park-3
+slice-aggregate-take-park-3 c = search needs
+
+slice-aggregate-take-park-4 : tie.Need-slice-aggregate-take-park-4
+slice-aggregate-take-park-4 c = search needs
+
+take-park-requires : tie.Need-take-park-requires
+take-park-requires c κs = tt
+
+array-share-prefix-lows : tie.Need-array-share-prefix-lows
+array-share-prefix-lows c = search needs
+
+slice-aggregate-exact-table : tie.Need-slice-aggregate-exact-table
+slice-aggregate-exact-table c = sym (length-take-le _ _ (array-share-prefix-lows (c .before)))
+
+array-share-prefix-highs : tie.Need-array-share-prefix-highs
+array-share-prefix-highs c = search needs
+
+slice-aggregate-exact-table-2 : tie.Need-slice-aggregate-exact-table-2
+slice-aggregate-exact-table-2 c = sym (length-take-le _ _ (array-share-prefix-highs (c .before)))
+
+array-share-prefix-costs : tie.Need-array-share-prefix-costs
+array-share-prefix-costs c = search needs
+
+slice-aggregate-exact-table-3 : tie.Need-slice-aggregate-exact-table-3
+slice-aggregate-exact-table-3 c = sym (length-take-le _ _ (array-share-prefix-costs (c .before)))
+
+slice-aggregate-exact-table-4 : tie.Need-slice-aggregate-exact-table-4
+slice-aggregate-exact-table-4 c = search needs
+
+exact-table-requires : tie.Need-exact-table-requires
+exact-table-requires c κs = tt
 
 same-length : tie.Need-same-length
 same-length c = search needs
@@ -31,42 +64,34 @@ same-length-3 c = search needs
 
 returns : tie.Need-returns
 returns c =
-    let parents = c .before .before .before .before .before .before .before in
-    let found = parents .before .before .before in
-    let dists = found .before .before .before in
-    let both = dists .before .before .before in
-    let a = both .before .before .before .before .before .before .before .before .args in
-    found-all (a .root) (a .lows .now) (a .highs .now) (a .costs .now) (a .words .now) (a .dists .now) (a .parents .now) (a .marks .now) _ (both .both .ensures) (dists .before .before .if1 .taken)
-    _ _ (dists .find-dists .ensures) (found .if2 .taken) _ (parents .find-parents .ensures) _ (c .before .before .find-marks .ensures)
-
-same-length-4 : tie.Need-same-length-4
-same-length-4 c = search needs
-
-returns-2 : tie.Need-returns-2
-returns-2 c =
-    let dists = c .before .before .before in
-    let both = dists .before .before .before in
-    let a = both .before .before .before .before .before .before .before .before .args in
-    found-none (a .root) (a .lows .now) (a .highs .now) (a .costs .now) (a .words .now) (a .dists .now) (a .parents .now) (a .marks .now) _ (both .both .ensures) (dists .before .before .if1 .taken)
-    _ _ (dists .find-dists .ensures) (c .if2 .left)
-
-returns-3 : tie.Need-returns-3
-returns-3 c =
-    let a = c .before .before .before .before .before .before .before .before .before .args in
-    found-not (a .root) (a .lows .now) (a .highs .now) (a .costs .now) (a .words .now) (a .dists .now) (a .parents .now) (a .marks .now) _ (c .before .both .ensures) (c .if1 .left)
+    let park = c .before .before .before .before .before .before .before .before .before .before .before .before .before .before .before .before .before .before .take-park in
+    let wide = c .before .before .before .before .before .before .before .before .before .before .before .before .before .before .before .before .before .before .before .before .before .before .before .wide in
+    let within = c .before .before .before .before .before .before .before .before .before .before .before .before .before .before .before .before .before .before .before .before .before .before .before .before .within in
+    let a = c .before .before .before .before .before .before .before .before .before .before .before .before .before .before .before .before .before .before .before .before .before .before .before .before .before .before .before .before .before .args in
+    let room : wide .result ≤ 1024 = omega (arith, wide .ensures .0, within .ensures) in
+    found-here (a .file .now) (a .head) (within .result) (wide .result) (within .ensures) (wide .ensures .0) _ _ _ _ _ _ _ _ _ _ _ _ _ (room, room, room)
+    (park .ensures) (c .before .before .before .before .before .before .exact-table .ensures)
 
 pub exact-table-spec : {M : Type 1} → statement M
 exact-table-spec =
     tie.close
     (tie.spec
-    both-requires
-    find-dists-requires
-    find-parents-requires
-    find-marks-requires
+    within-requires
+    wide-requires
+    slice-aggregate-take-park
+    slice-aggregate-take-park-2
+    slice-aggregate-take-park-3
+    slice-aggregate-take-park-4
+    take-park-requires
+    array-share-prefix-lows
+    slice-aggregate-exact-table
+    array-share-prefix-highs
+    slice-aggregate-exact-table-2
+    array-share-prefix-costs
+    slice-aggregate-exact-table-3
+    slice-aggregate-exact-table-4
+    exact-table-requires
     same-length
     same-length-2
     same-length-3
-    returns
-    same-length-4
-    returns-2
-    returns-3)
+    returns)

@@ -1,4 +1,4 @@
--- `group::bits_at` meets its contract: the ones of a word are its set bits, and a word of 64 bits has no more.
+-- The ones of a word are its set bits, and a word of 64 bits has no more.
 use mathlib.Core.Path.{sym}
 use Prim.Native.Nat.{zero-le}
 use lib.ListN.{List·getD-eq-default}

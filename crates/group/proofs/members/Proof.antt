@@ -1,4 +1,4 @@
--- `group::members` meets its contract: the members are the set bits of the four words.
+-- The members are the set bits of the four words.
 use mathlib.Core.Path.{sym}
 use Rattle.group.proofs.WordLaws.{members-words}
 use borrow.Author.Needs.{needs}

@@ -2,7 +2,7 @@
 use lib.ListN.{length-set}
 use Rattle.wire.specs.Big.{bytesOf}
 use mathlib.Core.Path.{refl, sym, _∙_}
-use Rattle.lent.proofs.StoreLaws.{sets-out}
+use Rattle.wire.proofs.StoreLaws.{sets-out}
 use Rattle.wire.proofs.BigLaws.{put-two}
 use borrow.Author.Needs.{needs}
 use Rattle.wire.proofs.put16.Statement.{statement}

@@ -1,7 +1,7 @@
 -- Two stores of a half are one store of the four bytes.
 use Rattle.wire.specs.Big.{bytesOf}
 use mathlib.Core.Path.{sym, _∙_}
-use Rattle.lent.proofs.StoreLaws.{sets-out}
+use Rattle.wire.proofs.StoreLaws.{sets-out}
 use Rattle.wire.proofs.BigLaws.{put-four}
 use borrow.Author.Needs.{needs}
 use Rattle.wire.proofs.put32.Statement.{statement}

@@ -1,94 +1,101 @@
 -- What the whole search comes to is what the search from the place `at` comes to; each turn takes one link off.
 use Prim.Native.Nat.{_-_}
 use mathlib.Core.Path.{_≡_, refl, sym, _∙_}
-use lib.ListN.{length, drop}
-use borrow.Author.Needs.{scaled-fits}
+use lib.ListN.{getD, drop}
+use borrow.Author.Needs.{needs}
 use Rattle.measure.specs.Measure.{ceiling}
-use Rattle.slices.specs.Slices.{linksOf}
-use Rattle.slices.specs.Reading.{nodeAt, linkAt}
-use Rattle.slices.proofs.PlaceLaws.{place-next, falls, below}
-use Rattle.keeping.specs.Keep.{unheard}
+use Rattle.table.specs.Slices.{linksOf}
+use Rattle.table.specs.Nodes.{nodeAt}
+use Rattle.table.proofs.PlaceLaws.{falls}
+use Rattle.links.proofs.NeighbourLaws.{no-end}
+use Rattle.round.specs.Keep.{unheard}
 use Rattle.round.specs.Scan.{passedAll}
-use Rattle.round.proofs.ScanLaws.{untouched, passed-next, passed-end}
+use Rattle.round.proofs.HearLaws.{passed-none, passed-some}
+use Rattle.round.proofs.ScanLaws.{passed-next, passed-end}
 use Rattle.round.proofs.node.pass_links.Statement.{statement}
 use Rattle.round.proofs.node.pass_links.Tie as tie
 
 abbrev Inv-loop : tie.InvT-loop
-Inv-loop node lows highs costs dists parents marks best₀ at₀ best at =
+Inv-loop node lows highs costs dists parents marks best₀ end at₀ best at =
     passedAll (nodeAt ceiling dists) (nodeAt 0 parents) (nodeAt 0 marks) node best (drop at (linksOf lows highs costs))
     ≡ passedAll (nodeAt ceiling dists) (nodeAt 0 parents) (nodeAt 0 marks) node unheard (linksOf lows highs costs)
 
 abbrev μ-loop : tie.MeasureT-loop
-μ-loop node lows highs costs dists parents marks best₀ at₀ best at = length lows - at
+μ-loop node lows highs costs dists parents marks best₀ end at₀ best at = end - at
 
--- from the loop's head to the entry
-abbrev entry-of : tie.At-loop Inv-loop μ-loop → tie.Start Inv-loop μ-loop
-entry-of c = c .before .before .before .before .before .before .before
+shortest-requires : tie.Need-shortest-requires Inv-loop μ-loop
+shortest-requires c κs = tt
 
 loop-holds : tie.Need-loop-holds Inv-loop μ-loop
 loop-holds c = refl
 
 add-at : tie.Need-add-at Inv-loop μ-loop
-add-at c = place-next (c .before .loop .at) _ (c .loop-test .taken) (entry-of (c .before) .good .1 .0 .0)
+add-at c = search needs
 
 mul-low : tie.Need-mul-low Inv-loop μ-loop
-mul-low c = scaled-fits (c .before .loop .at) _ 2 (c .loop-test .taken) (entry-of (c .before) .good .1 .0 .1)
+mul-low c = search needs
 
 shared-slice-read-low : tie.Need-shared-slice-read-low Inv-loop μ-loop
-shared-slice-read-low c = c .before .loop-test .taken
+shared-slice-read-low c = search needs
 
 mul-high : tie.Need-mul-high Inv-loop μ-loop
-mul-high c =
-    let head = c .before .before in
-    scaled-fits (head .loop .at) _ 2 (below (entry-of head .pre .0) (c .before .loop-test .taken)) (entry-of head .good .1 .1 .0 .1)
+mul-high c = search needs
 
 shared-slice-read-high : tie.Need-shared-slice-read-high Inv-loop μ-loop
-shared-slice-read-high c = below (entry-of (c .before .before .before) .pre .0) (c .before .before .loop-test .taken)
+shared-slice-read-high c = search needs
 
 touches-requires : tie.Need-touches-requires Inv-loop μ-loop
 touches-requires c κs = tt
 
-mul-hear-link : tie.Need-mul-hear-link Inv-loop μ-loop
-mul-hear-link c =
-    let test = c .before .before .before .before in
-    let start = entry-of (test .before) in
-    scaled-fits (test .before .loop .at) _ 2 (below (start .pre .1) (test .loop-test .taken)) (start .good .1 .1 .1 .0 .1)
+other-end-requires : tie.Need-other-end-requires Inv-loop μ-loop
+other-end-requires c κs = tt
 
-shared-slice-read-hear-link : tie.Need-shared-slice-read-hear-link Inv-loop μ-loop
-shared-slice-read-hear-link c =
-    let test = c .before .before .before .before .before in
-    below (entry-of (test .before) .pre .1) (test .loop-test .taken)
+mul-hear-arc : tie.Need-mul-hear-arc Inv-loop μ-loop
+mul-hear-arc c = search needs
 
-hear-link-requires : tie.Need-hear-link-requires Inv-loop μ-loop
-hear-link-requires c κs = tt
+shared-slice-read-hear-arc : tie.Need-shared-slice-read-hear-arc Inv-loop μ-loop
+shared-slice-read-hear-arc c = search needs
+
+hear-arc-requires : tie.Need-hear-arc-requires Inv-loop μ-loop
+hear-arc-requires c κs = tt
 
 loop-less : tie.Need-loop-less Inv-loop μ-loop
 loop-less c =
-    let test = c .before .before .before .before .before .before in
+    let test = c .before .before .before .before .before .before .before .before in
     falls _ (test .before .loop .at) (test .loop-test .taken)
 
 loop-again : tie.Need-loop-again Inv-loop μ-loop
 loop-again c =
-    let test = c .before .before .before .before .before .before in
-    passed-next _ _ _ _ _ _ _ _ _ _ (test .before .loop .inv) (entry-of (test .before) .pre) (test .loop-test .taken) _ (c .hear-link .ensures)
+    let test = c .before .before .before .before .before .before .before .before in
+    passed-next _ _ _ _ _ _ _ _ _ _ (test .before .loop .inv) _ (test .before .before .shortest .ensures) (test .loop-test .taken)
+    _ (c .hear-arc .ensures ∙ passed-some _ _ _ _ _ _ _ (c .before .before .before .other-end .ensures) (c .before .before .if2 .taken))
 
 loop-less-2 : tie.Need-loop-less-2 Inv-loop μ-loop
 loop-less-2 c =
-    let test = c .before .before .before .before in
+    let test = c .before .before .before .before .before .before in
     falls _ (test .before .loop .at) (test .loop-test .taken)
 
 loop-again-2 : tie.Need-loop-again-2 Inv-loop μ-loop
 loop-again-2 c =
+    let test = c .before .before .before .before .before .before in
+    passed-next _ _ _ _ _ _ _ _ _ _ (test .before .loop .inv) _ (test .before .before .shortest .ensures) (test .loop-test .taken)
+    _ (passed-none _ _ _ _ _ _ _ (c .before .other-end .ensures) (c .if2 .left))
+
+loop-less-3 : tie.Need-loop-less-3 Inv-loop μ-loop
+loop-less-3 c =
     let test = c .before .before .before .before in
-    let head = test .before in
-    let start = entry-of head in
-    let a = start .args in
-    let e = untouched (nodeAt ceiling (a .dists .now)) (nodeAt 0 (a .parents .now)) (nodeAt 0 (a .marks .now)) (a .node) (head .loop .best)
-    (linkAt (a .lows .now) (a .highs .now) (a .costs .now) (head .loop .at)) (sym (c .before .touches .ensures) ∙ c .if1 .left) in
-    passed-next _ _ _ _ _ _ _ _ _ _ (head .loop .inv) (start .pre) (test .loop-test .taken) _ e
+    falls _ (test .before .loop .at) (test .loop-test .taken)
+
+loop-again-3 : tie.Need-loop-again-3 Inv-loop μ-loop
+loop-again-3 c =
+    let test = c .before .before .before .before in
+    let at = test .before .loop .at in
+    let a = c .before .before .before .before .before .before .before .before .before .before .before .before .before .args in
+    passed-next _ _ _ _ _ _ _ _ _ _ (test .before .loop .inv) _ (test .before .before .shortest .ensures) (test .loop-test .taken)
+    _ (passed-none _ _ _ _ _ _ 0 (no-end (getD (a .lows .now) at 0) (getD (a .highs .now) at 0) (a .node) (sym (c .before .touches .ensures) ∙ c .if1 .left)) refl)
 
 returns : tie.Need-returns Inv-loop μ-loop
-returns c = passed-end _ _ _ _ _ _ _ _ _ _ (c .before .loop .inv) (c .loop-test .left)
+returns c = passed-end _ _ _ _ _ _ _ _ _ _ (c .before .loop .inv) _ (c .before .before .shortest .ensures) (c .loop-test .left)
 
 pub pass-links-spec : {M : Type 1} → statement M
 pass-links-spec =
@@ -96,6 +103,7 @@ pass-links-spec =
     (tie.spec
     Inv-loop
     μ-loop
+    shortest-requires
     loop-holds
     add-at
     mul-low
@@ -103,11 +111,14 @@ pass-links-spec =
     mul-high
     shared-slice-read-high
     touches-requires
-    mul-hear-link
-    shared-slice-read-hear-link
-    hear-link-requires
+    other-end-requires
+    mul-hear-arc
+    shared-slice-read-hear-arc
+    hear-arc-requires
     loop-less
     loop-again
     loop-less-2
     loop-again-2
+    loop-less-3
+    loop-again-3
     returns)

@@ -1,2 +1,0 @@
-pub mod ApartLaws
-pub mod LentLaws

@@ -1,2 +1,0 @@
-pub mod AskingLaws
-pub mod ExactLaws

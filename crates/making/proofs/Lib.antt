@@ -1,2 +1,0 @@
-pub mod MakeLaws
-pub mod FileLaws

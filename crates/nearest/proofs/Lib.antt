@@ -1,2 +1,0 @@
-pub mod NearestLaws
-pub mod SearchLaws

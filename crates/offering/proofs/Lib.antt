@@ -1,3 +1,0 @@
-pub mod LowerLaws
-pub mod SettleLaws
-pub mod TurnLaws

@@ -1,0 +1,10 @@
+pub mod NearestLaws
+pub mod SearchLaws
+pub mod LowerLaws
+pub mod SettleLaws
+pub mod TurnLaws
+pub mod LoopLaws
+pub mod WalkLaws
+pub mod MarkLaws
+pub mod FoundLaws
+pub mod TableFoundLaws

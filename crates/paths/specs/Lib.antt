@@ -1,0 +1,4 @@
+pub mod Nearest
+pub mod Offers
+pub mod Walk
+pub mod Found

@@ -1,0 +1,5 @@
+pub mod WordLaws
+pub mod RecordsLaws
+pub mod BitsLaws
+pub mod FillLaws
+pub mod ApartLaws

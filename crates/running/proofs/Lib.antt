@@ -1,2 +1,0 @@
-pub mod RunFileLaws
-pub mod RunTheorems

@@ -1,4 +1,0 @@
-// settle on an empty input: refusal 1 at 0.
-fn main() {
-    settling::settle_input();
-}

@@ -1,4 +1,0 @@
-// settle on a file with n 257: refusal 4.
-fn main() {
-    settling::settle_input();
-}

@@ -1,3 +1,0 @@
-pub mod Marked
-pub mod Served
-pub mod Summing

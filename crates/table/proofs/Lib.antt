@@ -1,0 +1,10 @@
+pub mod ReadLaws
+pub mod LinkLaws
+pub mod TableLaws
+pub mod SliceLaws
+pub mod PlaceLaws
+pub mod PartLaws
+pub mod TestLaws
+pub mod FitLaws
+pub mod SameLaws
+pub mod FlagLaws

@@ -1,0 +1,5 @@
+pub mod Slices
+pub mod Nodes
+pub mod Fit
+pub mod Same
+pub mod Flag
