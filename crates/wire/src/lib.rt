@@ -1,5 +1,7 @@
 // Big-endian numbers of 16 and 32 bits in lent bytes. Every call is total: a byte outside the slice is read as 0, and
 // one that would be written there is dropped. Places are in bytes from the slice's start.
+#![tactic(auto)]
+
 pub mod bytes;
 
 ghost use Rattle.std.specs.Prelude.{◌≡◌, ◌<◌};

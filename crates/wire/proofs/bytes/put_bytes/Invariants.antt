@@ -1,0 +1,10 @@
+-- What is put and what is still to put are all the bytes.
+use Rattle.std.proofs.Common.{◌≡◌, ◌-◌, length, drop}
+use Rattle.std.proofs.lemmas.List.Edits.{sets}
+use Rattle.wire.proofs.bytes.put_bytes.Given as goal
+
+abbrev pub invariant-loop-i : goal.invariant-loop-i
+invariant-loop-i l = sets l.s l.at (drop l.i l.bytes) ≡ sets l.fn.s l.fn.place l.bytes
+
+abbrev pub decreases-loop-i : goal.decreases-loop-i
+decreases-loop-i l = length l.bytes - l.i
