@@ -1,5 +1,7 @@
 // The group set as 64-bit words, node 1 the lowest bit of the first: whether a node is a member, and how many members there
 // are, in nodes.
+#![tactic(auto)]
+
 ghost use Rattle.std.specs.Prelude.{◌≡◌, ◌≤◌, get_or};
 ghost use Rattle.rule.specs.Round.{numbered};
 ghost use Rattle.group.specs.Group.{bit_set, member_in};
