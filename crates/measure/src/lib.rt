@@ -1,6 +1,8 @@
 // Three measures, each a type of its own, so that none passes for another: a cost in cost units, a hop count in hops
 // and a round count in rounds. The ceiling, the largest cost and the capped addition stand with the cost. How large a park may
 // be stands here too.
+#![tactic(auto)]
+
 ghost use Rattle.std.specs.Prelude.{◌≡◌};
 ghost use Rattle.measure.specs.Measure.{cap, plus};
 
@@ -11,15 +13,15 @@ pub const NODES: usize = 256;
 pub const LINKS: usize = 1024;
 
 // A link's cost or a node's distance from the root, in cost units. Any 32-bit number may be stored as a distance.
-#[derive(Drop)]
+#[derive(Clone, Copy)]
 pub struct Cost(pub u32);
 
 // A hop count: links passed on the way to the root, in hops.
-#[derive(Drop)]
+#[derive(Clone, Copy)]
 pub struct Hops(pub u32);
 
 // A round count, in rounds.
-#[derive(Drop)]
+#[derive(Clone, Copy)]
 pub struct Rounds(pub u32);
 
 impl Cost {
