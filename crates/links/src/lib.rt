@@ -1,5 +1,7 @@
 // A node's neighbours over lent slices: the lower ends of the links and the higher ends, node numbers both. Nothing is
 // refused: 0 is nobody's neighbour, and a number that is no node has none.
+#![tactic(auto)]
+
 ghost use Rattle.std.specs.Prelude.{◌≡◌, ◌||◌, eqb};
 ghost use Rattle.links.specs.Neighbours.{ends_of, other_end, neighbour};
 

@@ -1,5 +1,7 @@
 // What the lent slices hold for a node, and the least of their lengths. Each reader answers for every number: one that is no node has no
 // distance, no parent and no mark.
+#![tactic(auto)]
+
 pub mod flags;
 
 ghost use Rattle.std.specs.Prelude.{◌≡◌, min};
