@@ -1,5 +1,7 @@
 // What the calls answer, each a value of its own or a refusal. The definition of document 01's number and values for each
 // answer is specs/Values.antt.
+#![tactic(auto)]
+
 pub mod refusal;
 pub mod values;
 
@@ -7,7 +9,7 @@ use crate::refusal::Refusal;
 use measure::{Hops, Rounds};
 
 // The numbers at the head of a park file.
-#[derive(Drop)]
+#[derive(Clone, Copy)]
 pub struct Head {
     // The nodes, in nodes.
     pub nodes: u16,
@@ -18,7 +20,7 @@ pub struct Head {
 }
 
 // What reading a file's fields finds.
-#[derive(Drop)]
+#[derive(Clone, Copy)]
 pub enum ReadAnswer {
     // A park file: the numbers at its head.
     Park(Head),
@@ -26,7 +28,7 @@ pub enum ReadAnswer {
 }
 
 // What Check answers.
-#[derive(Drop)]
+#[derive(Clone, Copy)]
 pub enum CheckAnswer {
     // A park file: its number of nodes, and of links.
     Park { nodes: u16, links: u16 },
@@ -34,7 +36,7 @@ pub enum CheckAnswer {
 }
 
 // What Run answers.
-#[derive(Drop)]
+#[derive(Clone, Copy)]
 pub enum RunAnswer {
     // The new file is in the area: the rounds done, in rounds, and whether one more round would change nothing.
     Done { rounds: Rounds, quiet: bool },
@@ -42,7 +44,7 @@ pub enum RunAnswer {
 }
 
 // What Exact answers.
-#[derive(Drop)]
+#[derive(Clone, Copy)]
 pub enum ExactAnswer {
     // The file is in the area, as long as the one that was given.
     Done,
@@ -50,7 +52,7 @@ pub enum ExactAnswer {
 }
 
 // What Write answers.
-#[derive(Drop)]
+#[derive(Clone, Copy)]
 pub enum WriteAnswer {
     // The file is in the area: its length, in bytes.
     Done(usize),
@@ -58,7 +60,7 @@ pub enum WriteAnswer {
 }
 
 // What Right answers.
-#[derive(Drop)]
+#[derive(Clone, Copy)]
 pub enum RightAnswer {
     // The stored state is the exact table.
     Yes,
@@ -68,7 +70,7 @@ pub enum RightAnswer {
 }
 
 // Where following parents led.
-#[derive(Drop)]
+#[derive(Clone, Copy)]
 pub enum Outcome {
     // The root was met, after so many hops.
     Reached(Hops),
@@ -79,14 +81,14 @@ pub enum Outcome {
 }
 
 // The node asked about, by its number, and where its way led.
-#[derive(Drop)]
+#[derive(Clone, Copy)]
 pub struct WayOfNode {
     pub node: u16,
     pub outcome: Outcome,
 }
 
 // What Way answers.
-#[derive(Drop)]
+#[derive(Clone, Copy)]
 pub enum WayAnswer {
     // The node asked about, by its number, and where its way led.
     Told(WayOfNode),
@@ -94,7 +96,7 @@ pub enum WayAnswer {
 }
 
 // The counts of a summary.
-#[derive(Drop)]
+#[derive(Clone, Copy)]
 pub struct Counts {
     // The members of the group, in nodes.
     pub members: u32,
@@ -105,7 +107,7 @@ pub struct Counts {
 }
 
 // What Summary answers.
-#[derive(Drop)]
+#[derive(Clone, Copy)]
 pub enum SummaryAnswer {
     Counted(Counts),
     Refused(Refusal),

@@ -3,7 +3,7 @@ ghost use Rattle.std.specs.Prelude.{◌≡◌};
 ghost use Rattle.answers.specs.Refusals.{number_of, place_of};
 
 // A refusal. The place, where it is not 0, is in bytes from the file's start.
-#[derive(Drop)]
+#[derive(Clone, Copy)]
 pub enum Refusal {
     // Bytes end where a field is still due, or inside it: where the field starts, in bytes.
     Short(usize),
@@ -32,7 +32,7 @@ pub enum Refusal {
 }
 
 // What a step of reading finds: nothing to refuse, or a refusal.
-#[derive(Drop)]
+#[derive(Clone, Copy)]
 pub enum Verdict {
     Fine,
     Refused(Refusal),
