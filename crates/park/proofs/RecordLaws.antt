@@ -81,12 +81,12 @@ link_here {s} {at} n before l rest few ok h =
 pub links_written : {s : List ℕ} {at : ℕ} (n before : ℕ) (ls : List Link) → n ≤ 256 → LinksOk n before ls → Has s at (link_bytes ls)
     → (links_from s n at before (length ls) ≡ Fine) × (links_read s at (length ls) ≡ ls)
 unfolding links_from links_read link_at unless ◌then◌ link_bytes
-links_written n before [] few ok h = (refl, refl)
-links_written {s} {at} n before (l ∷ ls) few ok h =
+links_written {at = at} n before [] few ok h = (refl, refl)
+links_written {s} {at = at} n before (l ∷ ls) few ok h =
     let w = link_here n before l (link_bytes ls) few ok.0 h in
     let o = ok.0 in
     let rest : Has s (at + 6) (link_bytes ls) = others 2 2 l.low l.high (bytes_of 2 l.cost) (link_bytes ls) h 6 (simp length_bytes_of) in
-    let ih = links_written n (key_of l) ls few ok.1 rest in (
+    let ih = links_written {at = at + 6} n (key_of l) ls few ok.1 rest in (
       simp (w.low, w.high, w.cost, w.key)
           (simp (le-leb _ _ o.least, lt-ltb _ _ o.ascending, le-leb _ _ o.most, le-leb _ _ o.cost, lt-ltb _ _ o.after) ih.0),
       simp (w.low, w.high, w.cost, ih.1),
@@ -94,8 +94,8 @@ links_written {s} {at} n before (l ∷ ls) few ok h =
 
 pub cells_written : {s : List ℕ} {at : ℕ} (cs : List Cell) → CellsOk cs → Has s at (state_bytes cs) → cells_read s at (length cs) ≡ cs
 unfolding cells_read state_bytes
-cells_written [] ok h = refl
-cells_written {s} {at} (c ∷ cs) ok h =
+cells_written {at = at} [] ok h = refl
+cells_written {s} {at = at} (c ∷ cs) ok h =
     let o = ok.0 in
     let a : big 4 s at ≡ c.dist = first 4 2 c.dist c.parent (c.mark ∷ []) (state_bytes cs) h o.dist in
     let b : big 2 s (at + 4) ≡ c.parent = second 4 2 c.dist c.parent (c.mark ∷ []) (state_bytes cs) h o.parent in
@@ -103,7 +103,7 @@ cells_written {s} {at} (c ∷ cs) ok h =
     let m : get_or s (at + 4 + 2 + 0) 0 ≡ c.mark = has_at t 0 (omega arith) in
     let e : at + 4 + 2 + 0 ≡ at + 6 = omega arith in
     let m' : get_or s (at + 6) 0 ≡ c.mark = rw e at m in
-    let ih = cells_written cs ok.1 (others 4 2 c.dist c.parent (c.mark ∷ []) (state_bytes cs) h 7 refl) in
+    let ih = cells_written {at = at + 7} cs ok.1 (others 4 2 c.dist c.parent (c.mark ∷ []) (state_bytes cs) h 7 refl) in
     simp (a, b, m', ih)
 
 -- n nodes less the nodes of suc i bytes

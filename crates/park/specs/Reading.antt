@@ -8,7 +8,7 @@ use Rattle.answers.specs.Verdicts.{unless, ◌then◌, by_verdict}
 use Rattle.answers.specs.declared.CheckAnswer as checked
 use Rattle.answers.specs.declared.Head.{Head}
 use Rattle.answers.specs.declared.ReadAnswer as found
-use Rattle.answers.specs.declared.refusal.Verdict.TheVariants.{Fine, Refused}
+use Rattle.answers.specs.declared.refusal.Verdict.TheVariants.{Fine}
 use Rattle.answers.specs.declared.refusal.Verdict.{Verdict}
 use Rattle.answers.specs.declared.refusal.Refusal.TheVariants.{Short, Tag, Length, Bounds, Ends, Order, Bit, After}
 use Rattle.answers.specs.declared.refusal.Refusal.{Refusal}
