@@ -1,4 +1,6 @@
 // Reading a park file: its fields are checked once, in document 01's order, and its numbers are taken apart into lent slices.
+#![tactic(auto)]
+
 pub mod apart;
 mod bits;
 mod fields;
