@@ -7,7 +7,7 @@ use lib.ListN.{length}
 use lib.Dec.{eqb}
 use borrow.Author.Tests.{eq-eqb, ne_eqb}
 use Rattle.measure.specs.Measure.{ceiling}
-use Rattle.rule.specs.Round.{Net, Cell, at, giving, chosen, asked, new_dist, parent_at, new_mark, new_cell, arcs_of, net_of}
+use Rattle.rule.specs.Round.{Net, Cell, at, giving, chosen, new_dist, parent_at, new_mark, new_cell, arcs_of, net_of}
 use Rattle.rule.proofs.OnePassLaws.{kept_from}
 use Rattle.group.specs.Group.{member_in}
 use Rattle.table.specs.Slices.{links_of, cells_of, park_of}

@@ -2,7 +2,7 @@
 use Prim.Native.Nat.{ℕ, ◌≤◌}
 use native.Mathlib.Omega.{arith}
 use mathlib.Core.Path.{◌≡◌, sym, ap, ◌∙◌}
-use mathlib.Core.Bool.{Bool, true, false, cond, not, ◌||◌, or_true, or-false, and-false}
+use mathlib.Core.Bool.{Bool, true, false, cond, not, ◌||◌, or-true, or-false, and-false}
 use lib.Dec.{eqb}
 use borrow.Author.Tests.{eq-eqb, ne_eqb}
 use Rattle.measure.specs.Measure.{ceiling}
@@ -14,7 +14,7 @@ use Rattle.round.specs.Hear.{asks, with_asked, hear, passed}
 use Rattle.round.proofs.KeepLaws.{takes_far}
 
 pub asked_more : (b : Best) (q : Bool) → q ≡ true → record { dist = b.dist; from = b.from; cost = b.cost; asked = true } ≡ with_asked b q
-asked_more b q e = ap (λ (t : Bool). record { dist = b.dist; from = b.from; cost = b.cost; asked = t }) (sym (ap (λ (t : Bool). b.asked || t) e ∙ or_true b.asked))
+asked_more b q e = ap (λ (t : Bool). record { dist = b.dist; from = b.from; cost = b.cost; asked = t }) (sym (ap (λ (t : Bool). b.asked || t) e ∙ or-true b.asked))
 
 pub asked_same : (b : Best) (q : Bool) → q ≡ false → b ≡ with_asked b q
 asked_same b q e = ap (λ (t : Bool). record { dist = b.dist; from = b.from; cost = b.cost; asked = t }) (sym (ap (λ (t : Bool). b.asked || t) e ∙ or-false b.asked))

@@ -14,7 +14,7 @@ use Rattle.rule.specs.Round.{Arc, Link, through, before, asked, arcs_of}
 use Rattle.rule.proofs.OfferLaws.{least_le}
 use Rattle.rule.proofs.OnePassLaws.{Kept, kept_none, kept_less, kept_equal, kept_more, kept_ceiling}
 use Rattle.round.specs.declared.keep.Best.{Best}
-use Rattle.round.specs.Keep.{unheard, kept_arc, takes, kept}
+use Rattle.round.specs.Keep.{unheard, kept_arc, takes}
 use Rattle.round.specs.Hear.{asks, with_asked, hear, passed}
 use Rattle.round.specs.Scan.{passed_all}
 use Rattle.round.proofs.KeepLaws.{takes_less, takes_more, takes_ceiling, takes_tie}

@@ -3,7 +3,7 @@ use Prim.Native.Nat.{ℕ, ◌+◌, ◌≤◌, ◌<◌, min}
 use native.Mathlib.Numerals.{add-one}
 use native.Mathlib.Omega.{arith}
 use mathlib.Core.Path.{◌≡◌, sym, ap, ◌∙◌}
-use mathlib.Core.Bool.{Bool, true, false, cond, ◌||◌, or_true}
+use mathlib.Core.Bool.{Bool, true, false, cond, ◌||◌, or-true}
 use mathlib.Core.List.{List}
 use lib.ListN.{length, drop}
 use Rattle.table.specs.Slices.{links_of}
@@ -16,7 +16,7 @@ use Rattle.round.specs.Scan.{passed_all}
 -- the new mark, by the group and by whether a neighbour asks
 module _ (m q : Bool) where
   pub mark_asked : q ≡ true → ◌≡◌ {A = ℕ} 1 (cond (m || q) 1 0)
-  mark_asked e = rw (e, or_true m)
+  mark_asked e = rw (e, or-true m)
 
   pub mark_member : m ≡ true → ◌≡◌ {A = ℕ} 1 (cond (m || q) 1 0)
   mark_member e = rw e

@@ -3,7 +3,7 @@ use Prim.Native.Nat.{ℕ, zero, suc, ◌+◌, ◌-◌, ◌≤◌, ◌<◌}
 use native.Mathlib.Numerals.{add-one}
 use native.Mathlib.Omega.{arith}
 use mathlib.Core.Path.{◌≡◌, refl, sym, ap, ◌∙◌}
-use mathlib.Core.Bool.{Bool, true, false, ◌||◌, or_true, true≢false}
+use mathlib.Core.Bool.{Bool, true, false, ◌||◌, or-true, true≢false}
 use mathlib.Core.List.{List}
 use lib.ListN.{length, length-map}
 use lib.Dec.{eqb}
@@ -49,7 +49,7 @@ run_ends N n (suc left) done t e = go (quiet N n t) e
 pub run_goes_on : (N : Net) (n left done : ℕ) (t : List Cell) → (quiet N n t || eqb left 0) ≡ false
     → run_of N n (left - 1) (done + 1) (round N n t) ≡ run_of N n left done t
 unfolding run_of
-run_goes_on N n zero done t e = absurd (true≢false (sym (or_true (quiet N n t)) ∙ e))
+run_goes_on N n zero done t e = absurd (true≢false (sym (or-true (quiet N n t)) ∙ e))
 run_goes_on N n (suc left) done t e =
     let z : suc left - 1 ≡ left = omega arith in
     rw (z, add-one done) (go (quiet N n t) e)
@@ -70,7 +70,7 @@ held_lengths t n e ds ps ms h = (
 
 -- a turn that goes on has a round left
 some_left : (q : Bool) (left : ℕ) → (q || eqb left 0) ≡ false → left ≡ 0 → ⊥
-some_left q left e k = true≢false (sym (or_true q) ∙ ap (λ (b : Bool). q || b) (sym (eq-eqb left 0 k)) ∙ e)
+some_left q left e k = true≢false (sym (or-true q) ∙ ap (λ (b : Bool). q || b) (sym (eq-eqb left 0 k)) ∙ e)
 
 module _ (q : Bool) (left : ℕ) (e : (q || eqb left 0) ≡ false) where
   pub one_left : 1 ≤ left

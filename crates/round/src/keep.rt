@@ -7,7 +7,7 @@ ghost use Rattle.round.specs.Keep.{kept_arc, takes, kept};
 use measure::Cost;
 
 // What a node knows of the links that it has gone through.
-#[derive(Drop)]
+#[derive(Clone, Copy)]
 pub struct Best {
     // The least distance that a neighbour offers, in cost units; the ceiling where none offers less.
     pub dist: Cost,

@@ -2,6 +2,8 @@
 // words, and a table as distances, parents and marks, node 1 at index 0. The old table is only read and the new one only written, so that
 // every node acts on the values from before the round. Nothing lent is refused: a link without one of its parts is none, and a number
 // that is no node holds nothing.
+#![tactic(auto)]
+
 mod hear;
 pub mod keep;
 mod node;
