@@ -1,4 +1,6 @@
 // A file put into a lent area from a place that the caller gives. Sizes and places are in bytes.
+#![tactic(auto)]
+
 pub mod state;
 
 ghost use Rattle.std.specs.Prelude.{◌≡◌, ℕ, List, length};
