@@ -1,6 +1,8 @@
 // Run: rounds over a park file, as a new file in a lent area. The file is read, and module allowed tells what else is refused before
 // and after the rounds; between them the file is taken apart and the rounds are done on slices. The area is written last of all.
 // Counts are in rounds, sizes and places in bytes.
+#![tactic(auto)]
+
 mod allowed;
 
 ghost use Rattle.std.specs.Prelude.{◌≡◌, ℕ, List, length};
