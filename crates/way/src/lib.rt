@@ -1,5 +1,7 @@
 // Way: where following the stored parents of a park file leads from a node. The file is read, its links and its state are taken
 // apart into local arrays, and the way is followed there. Nothing is written.
+#![tactic(auto)]
+
 mod steps;
 
 ghost use Rattle.std.specs.Prelude.{◌≡◌, ℕ, List};
