@@ -1,5 +1,7 @@
 // The exact table of a park, over lent slices of plain numbers, and not by rounds: distances nearest first, then each node's
 // parent, then marks along the ways of the members. No state is kept and nothing is allocated.
+#![tactic(auto)]
+
 mod marks;
 mod nearest;
 pub mod offers;

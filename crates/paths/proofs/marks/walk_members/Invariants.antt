@@ -1,0 +1,13 @@
+-- What the members from here on leave is what all of them leave.
+use Rattle.std.proofs.Common.{◌≡◌, length, ◌+◌, ◌-◌}
+use Rattle.group.specs.Group.{member_in}
+use Rattle.paths.specs.Walk.{walked_from}
+use Rattle.paths.proofs.marks.walk_members.Given as goal
+
+abbrev pub invariant-loop-at : goal.invariant-loop-at
+invariant-loop-at l =
+    walked_from (member_in 64 l.words) l.parents (length l.parents - l.at) (l.at + 1) l.marks
+    ≡ walked_from (member_in 64 l.words) l.parents (length l.parents) 1 l.fn.marks
+
+abbrev pub decreases-loop-at : goal.decreases-loop-at
+decreases-loop-at l = length l.parents - l.at
