@@ -1,5 +1,7 @@
 // Exact: the file of a park with the exact table as its state, in a lent area. The table is found nearest node first and not by
 // rounds. Nothing is written before every refusal is ruled out. Places are in bytes.
+#![tactic(auto)]
+
 ghost use Rattle.std.specs.Prelude.{◌≡◌, ℕ, min, List, length};
 ghost use Rattle.rule.specs.Round.{Cell};
 ghost use Rattle.rule.specs.Exact.{Exact};

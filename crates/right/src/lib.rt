@@ -1,5 +1,7 @@
 // Right: whether the stored state of a park file is the exact table, value for value. A run of no rounds says whether a
 // round would change anything, and a round changes nothing exactly when the whole table is exact.
+#![tactic(auto)]
+
 ghost use Rattle.right.specs.Right.{Judged};
 
 use answers::{RightAnswer, RunAnswer};
