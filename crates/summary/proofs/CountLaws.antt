@@ -58,6 +58,14 @@ mark_set marks k h = rw (ne_eqb (get_or marks k 0) 0 h)
 pub mark_clear : (marks : List ℕ) (k : ℕ) → get_or marks k 0 ≡ 0 → marked_at marks (suc k) ≡ false
 mark_clear marks k h = rw h
 
+-- so a loop over n marks has one less to count behind a mark that is set, and as many behind one that is not
+module _ (marks : List ℕ) (n k : ℕ) (h : k < n) where
+  pub rest_set : (get_or marks k 0 ≡ 0 → ⊥) → rest (marked_at marks) n k ≡ rest (marked_at marks) n (k + 1) + 1
+  rest_set set = rw (turn (marked_at marks) n k h, mark_set marks k set, add-one k) (omega arith)
+
+  pub rest_clear : get_or marks k 0 ≡ 0 → rest (marked_at marks) n k ≡ rest (marked_at marks) n (k + 1)
+  rest_clear clear = rw (turn (marked_at marks) n k h, mark_clear marks k clear, add-one k)
+
 -- node k + 1 is served where it is a member, as b says, and its mark is set; and else not
 module _ (words marks : List ℕ) (k : ℕ) where
   pub served_both : (b : Bool) → b ≡ member_in 64 words (k + 1) → b ≡ true → (get_or marks k 0 ≡ 0 → ⊥) → served_at words marks (suc k) ≡ true

@@ -1,5 +1,7 @@
 // Summary: how many nodes of a park file are members, are marked, and are served members. The file is read, its group set is taken
 // apart into four whole words and its state into local arrays, and they are counted there.
+#![tactic(auto)]
+
 mod counts;
 
 ghost use Rattle.std.specs.Prelude.{◌≡◌, ◌≤◌, length};
