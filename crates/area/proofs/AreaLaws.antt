@@ -1,6 +1,6 @@
 -- What a lent area holds once a file was put into it, and once a file that stands in it was changed there; and a file that was read,
 -- with a new state, is the file of the park with that state.
-use Prim.Native.Nat.{ℕ, ◌+◌, ◌-◌, ◌≤◌}
+use Prim.Native.Nat.{ℕ, ◌+◌, ◌-◌, ◌≤◌, ◌<◌}
 use Rattle.area.specs.Area.{room_for, area_with}
 use Rattle.park.proofs.RecordLaws.{length_links}
 use Rattle.park.proofs.StateLaws.{state_put}
@@ -10,15 +10,30 @@ use Rattle.park.specs.ParkFile.{state_bytes, encode, with_state}
 use Rattle.park.specs.Reading.{verdict_of, file_in, nodes_in, link_count, read_park, park}
 use Rattle.answers.specs.declared.refusal.Verdict.TheVariants.{Fine, Refused}
 use Rattle.answers.specs.declared.refusal.Verdict.{Verdict}
+use Rattle.answers.specs.declared.refusal.Refusal.TheVariants.{Room}
 use Rattle.answers.specs.declared.refusal.Refusal.{Refusal}
+use Rattle.answers.specs.Verdicts.{unless, ◌then◌}
 use Rattle.rule.specs.Round.{Cell}
 use Rattle.wire.specs.Big.{Bytes}
-use borrow.Author.Tests.{leb-true}
+use borrow.Author.Tests.{leb-true, le-leb, lt-leb}
 use lib.ListN.{length, take, drop, drop_of_length-le, length-drop}
 use lib.Seq.{sets, sets-eq, drop-drop, take_all, length-sets, length-take-le, take_at, drop_at}
 use mathlib.Core.List.{List, [], ◌++◌, append-nil}
 use mathlib.Core.Path.{◌≡◌, refl, sym, ap, ◌∙◌}
 use native.Mathlib.Omega.{arith}
+
+-- the verdict on the room, as its two tests give it
+pub room_beyond : (size area place : ℕ) → area < place → Refused Room ≡ room_for size area place
+unfolding room_for unless ◌then◌
+room_beyond size area place h = simp (lt-leb _ _ h)
+
+pub room_short : (size area place : ℕ) → place ≤ area → area - place < size → Refused Room ≡ room_for size area place
+unfolding room_for unless ◌then◌
+room_short size area place h l = simp (le-leb _ _ h, lt-leb _ _ l)
+
+pub room_enough : (size area place : ℕ) → place ≤ area → size ≤ area - place → Fine ≡ room_for size area place
+unfolding room_for unless ◌then◌
+room_enough size area place h l = simp (le-leb _ _ h, le-leb _ _ l)
 
 -- where there is room, the place and the file lie within the area
 pub room_fine : (size area place : ℕ) → room_for size area place ≡ Fine → (place ≤ area) × (size ≤ area - place)

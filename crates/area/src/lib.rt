@@ -9,6 +9,7 @@ ghost use Rattle.area.specs.Area.{room_for, area_with};
 use answers::refusal::{Refusal, Verdict};
 
 // Whether a file of so many bytes has room in an area of so many bytes from a place on.
+#[tactic(auto, using(crate::proofs::AreaLaws::room_beyond, crate::proofs::AreaLaws::room_short, crate::proofs::AreaLaws::room_enough))]
 pub fn room(size: usize, area: usize, place: usize) -> Verdict
     ensures { result ≡ room_for size area place }
 {
