@@ -1,1 +1,1 @@
-pub mod CountsLaws
+pub mod InputLaws

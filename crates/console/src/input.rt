@@ -1,33 +1,46 @@
 // Reading in pieces, from a pipe too, until the room is full, the input ends or a read fails.
-ghost use Rattle.io.specs.Counts.{IsPrefixLen};
+ghost use Rattle.std.specs.Prelude.{◌<◌, length, take, IsNone};
+ghost use Rattle.std.specs.Io.KnownBytes.{Consumes, IsAtEnd};
+ghost use Rattle.console.specs.Counts.{IsPrefixLen};
+
+use std::io::{Error, Read};
 
 // What reading came to.
 #[derive(Drop)]
 pub struct Input {
     // How many bytes stand at the start of the room.
     pub bytes: usize,
-    // Whether a read failed.
-    pub failed: bool,
+    // Why a read failed, where one did.
+    pub failed: Option<Error>,
 }
 
 // Reads until the room is full, the input ends or a read fails. An input without an end stops at the room's.
-pub fn read(fd: i32, room: &mut [u8]) -> Input
-    ensures { IsPrefixLen result.bytes room.new }
+#[tactic(auto, using(crate::proofs::InputLaws::taken_more))]
+pub fn read<R: Read>(from: &mut R, room: &mut [u8]) -> Input
+    ensures within { IsPrefixLen result.bytes room.new }
+    ensures taken { Consumes (R.remaining from.old) (R.remaining from.new) (take result.bytes room.new) }
+    ensures whole { IsNone result.failed → result.bytes < length room.new → IsAtEnd (R.remaining from.new) }
 {
     let mut done = 0;
     while done < room.len() {
-        let got = libc::read(fd, &mut room[done..]);
-        let more = io::count(got, &room[done..]);
-        if more == 0 {
-            return Input {
-                bytes: done,
-                failed: got < 0,
-            };
+        match from.read(&mut room[done..]) {
+            Ok(0) => {
+                return Input {
+                    bytes: done,
+                    failed: None,
+                };
+            }
+            Ok(more) => done += more,
+            Err(error) => {
+                return Input {
+                    bytes: done,
+                    failed: Some(error),
+                };
+            }
         }
-        done += more;
     }
     Input {
         bytes: done,
-        failed: false,
+        failed: None,
     }
 }

@@ -1,6 +1,8 @@
 // What the programs do: read a park file, run it, and print the table that it comes to: a header, a line for each node (number,
 // distance in cost units, parent, mark) and the rounds done. A refusal prints only its number and its place in bytes. A failed
 // read or write is told on standard error.
+#![tactic(auto)]
+
 pub mod input;
 mod text;
 
@@ -9,9 +11,9 @@ ghost use Rattle.measure.specs.Measure.{most_nodes};
 
 use answers::refusal::Refusal;
 use answers::{CheckAnswer, RunAnswer};
-use libc::{STDIN_FILENO, STDOUT_FILENO};
 use measure::{NODES, Rounds};
 use park::layout::LARGEST;
+use std::io::{Error, Read};
 
 // Room for a file and one byte more, in bytes: enough to see that bytes follow the largest one, whatever else is to come.
 pub const ROOM: usize = LARGEST + 1;
@@ -19,19 +21,23 @@ pub const ROOM: usize = LARGEST + 1;
 // Room for the text of the largest table, in bytes: 256 lines of at most 20 bytes, the header and the rounds.
 const PAGE: usize = 6144;
 
+// Tells what failed, and why. Where that fails too, there is nowhere left to tell it.
+pub fn fail(rt: &impl Eprint, what: &str, error: &Error) {
+    let _ = eprintln!(rt; "{what}: {error}");
+}
+
 // Writes the text, and tells where that fails.
-pub fn show(text: &[u8]) {
-    if io::write_all(STDOUT_FILENO, text) {
-        return;
+pub fn show<R: Print + Eprint>(rt: &R, text: &[u8]) {
+    if let Err(error) = rt.write_all(text) {
+        fail(rt, "standard output", &error);
     }
-    os::fail(b"standard output");
 }
 
 // Prints the refusal.
-pub fn show_refusal(refusal: Refusal) {
+pub fn show_refusal<R: Print + Eprint>(rt: &R, refusal: Refusal) {
     let mut page = [0u8; 64];
     let end = text::put_refusal(&mut page, refusal);
-    show(&page[..end]);
+    show(rt, &page[..end]);
 }
 
 // So many nodes, or as many as a park may have.
@@ -46,7 +52,7 @@ fn within(nodes: u16) -> usize
 }
 
 // Prints the state of a file of so many nodes and links, and the rounds done.
-fn show_settled(file: &[u8], nodes: u16, links: u16, rounds: Rounds) {
+fn show_settled<R: Print + Eprint>(rt: &R, file: &[u8], nodes: u16, links: u16, rounds: Rounds) {
     let mut dists = [0u32; NODES];
     let mut parents = [0u16; NODES];
     let mut marks = [0u8; NODES];
@@ -54,41 +60,42 @@ fn show_settled(file: &[u8], nodes: u16, links: u16, rounds: Rounds) {
     let mut page = [0u8; PAGE];
     let n = within(nodes);
     let end = text::put_settled(&mut page, &dists[..n], &parents, &marks, rounds);
-    show(&page[..end]);
+    show(rt, &page[..end]);
 }
 
 // Runs a file of so many nodes and links for at most so many rounds, and prints the table that it comes to.
-fn run_and_show(file: &[u8], nodes: u16, links: u16, count: Rounds) {
+fn run_and_show<R: Print + Eprint>(rt: &R, file: &[u8], nodes: u16, links: u16, count: Rounds) {
     let mut settled = [0u8; ROOM];
     let answer = run::run(file, count, &mut settled, 0);
     match answer {
-        RunAnswer::Refused(refusal) => show_refusal(refusal),
-        RunAnswer::Done { rounds, quiet: _ } => show_settled(&settled, nodes, links, rounds),
+        RunAnswer::Refused(refusal) => show_refusal(rt, refusal),
+        RunAnswer::Done { rounds, quiet: _ } => show_settled(rt, &settled, nodes, links, rounds),
     }
 }
 
 // Checks the file first, for its nodes and links; the count is in rounds.
-pub fn settle_file(file: &[u8], count: Rounds) {
+pub fn settle_file<R: Print + Eprint>(rt: &R, file: &[u8], count: Rounds) {
     let found = reader::check(file);
     match found {
-        CheckAnswer::Refused(refusal) => show_refusal(refusal),
-        CheckAnswer::Park { nodes, links } => run_and_show(file, nodes, links, count),
+        CheckAnswer::Refused(refusal) => show_refusal(rt, refusal),
+        CheckAnswer::Park { nodes, links } => run_and_show(rt, file, nodes, links, count),
     }
 }
 
-// Reads a file from a descriptor and settles it, in at most so many rounds.
-pub fn settle_from(fd: i32, count: Rounds) {
+// Reads a file and settles it, in at most so many rounds.
+pub fn settle_from<R: Print + Eprint, I: Read>(rt: &R, from: &mut I, count: Rounds) {
     let mut file = [0u8; ROOM];
-    let got = input::read(fd, &mut file);
-    if got.failed {
-        os::fail(b"input");
+    let got = input::read(from, &mut file);
+    if let Some(error) = got.failed {
+        fail(rt, "input", &error);
         return;
     }
     let n = got.bytes;
-    settle_file(&file[..n], count);
+    settle_file(rt, &file[..n], count);
 }
 
 // The whole program settle.
-pub fn settle_input() {
-    settle_from(STDIN_FILENO, Rounds::MOST);
+pub fn settle_input(rt: &HostRuntime) {
+    let mut input = rt.stdin();
+    settle_from(rt, &mut input, Rounds::MOST);
 }

@@ -1,9 +1,10 @@
 // The text that settle prints, of a settled table and of a refusal, put into a page piece by piece. What does not fit is
 // left out.
 ghost use Rattle.std.specs.Prelude.{◌≤◌, length};
-ghost use Rattle.io.specs.Counts.{IsPrefixLen};
+ghost use Rattle.console.specs.Counts.{IsPrefixLen};
 
 use answers::refusal::Refusal;
+use itoa::Buffer;
 use measure::{Cost, Rounds};
 use table::{dist_at, mark_at, parent_at};
 
@@ -24,9 +25,8 @@ fn put_number(page: &mut [u8], at: usize, number: u64, behind: &[u8]) -> usize
     requires { at ≤ length page.old }
     ensures { IsPrefixLen result page.new }
 {
-    let mut digits = [0u8; 20];
-    let k = io::decimal(number, &mut digits);
-    let end = put(page, at, &digits[..k]);
+    let mut digits = Buffer::new();
+    let end = put(page, at, digits.format(number).as_bytes());
     put(page, end, behind)
 }
 

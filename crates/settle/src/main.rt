@@ -1,4 +1,6 @@
 // settle: prints the settled table of the park file on standard input; room console has what it does.
-fn main() {
-    console::settle_input();
+#![tactic(auto)]
+
+fn main(rt: HostRuntime) {
+    console::settle_input(&rt);
 }
