@@ -1,6 +1,8 @@
 // The seven calls for C: numbers, and lent bytes as a pointer and a length. `answer` takes eight 64-bit numbers: the
 // refusal's number (0 for none), its place in bytes, then the call's own values; a value that is not used is 0. No call
 // keeps state, allocates or blocks. include/chandvreksh.h declares them.
+#![tactic(auto)]
+
 ghost use Rattle.std.specs.Prelude.{◌≡◌, List, ℕ, length};
 ghost use Rattle.park.specs.Reading.{check_of};
 ghost use Rattle.writer.specs.Made.{file_of};

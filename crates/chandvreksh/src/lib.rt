@@ -1,6 +1,8 @@
 // The seven calls on park files, their answers and their refusals: Check, Run, Exact, Write, Right, Way, Summary. Each call
 // states its complete outcome for every input in the room that it comes from; this room gathers them, and proves that any
 // two outcomes that a contract allows coincide (proofs/Coincide.antt) and document 01's cases (proofs/Cases.antt).
+#![tactic(auto)]
+
 pub use answers::refusal::Refusal;
 pub use answers::{
     CheckAnswer, Counts, ExactAnswer, Outcome, RightAnswer, RunAnswer, SummaryAnswer, WayAnswer,
