@@ -20,10 +20,8 @@ library() {
     if [ -n "$given" ]; then
         archive=$given
     else
-        # What cface depends on is proved on all processors; staticlib alone takes one crate after the other.
-        rt check $(sed -n 's/^cface: //p' crates.txt)
-        rt staticlib cface
-        archive=target/staticlib/libcface.a
+        (cd crates/cface && rt lib)
+        archive=crates/cface/out/libcface.a
     fi
 }
 
