@@ -33,6 +33,11 @@ hears_link l ls i q h = go (eqb l.low i) (eqb l.high i)
     go false true = refl
     go false false = rw (ne_eqb 0 q (λ e. h (sym e)))
 
+-- 0 is nobody's neighbour
+pub zero_neighbour : (ls : List Link) (i q : ℕ) → q ≡ 0 → false ≡ neighbour ls i q
+unfolding neighbour
+zero_neighbour ls i q h = rw (eq-eqb _ _ h)
+
 -- what node i hears of q over the links from place k on
 unfoldable pub heard_from : List ℕ → List ℕ → ℕ → ℕ → ℕ → Bool
 heard_from lows highs i q k = hears (arcs_of (ends_of (drop k lows) (drop k highs)) i) q

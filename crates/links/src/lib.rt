@@ -29,6 +29,7 @@ pub fn other_end(low: u16, high: u16, node: usize) -> u16
 }
 
 // Whether `other` is one of the neighbours of `node`, both by number. 0 is no neighbour. Ends without a counterpart are no link.
+#[tactic(auto, using(crate::proofs::NeighbourLaws::zero_neighbour, crate::proofs::NeighbourLaws::search_start))]
 pub fn is_neighbour(lows: &[u16], highs: &[u16], node: u16, other: u16) -> bool
     ensures { result ≡ neighbour (ends_of lows.now highs.now) node other }
 {

@@ -1,2 +1,3 @@
 pub mod RunFileLaws
 pub mod RunTheorems
+pub mod AllowedLaws

@@ -7,6 +7,7 @@ use answers::refusal::{Refusal, Verdict};
 use measure::Rounds;
 
 // The refusals that come before any round of a file of so many bytes: the count's, the area's.
+#[tactic(auto, using(crate::proofs::AllowedLaws::count_refused, crate::proofs::AllowedLaws::count_fine))]
 pub(crate) fn ready(count: Rounds, size: usize, area: usize, place: usize) -> Verdict
     ensures { result ≡ ready_for count.0 size area place }
 {
@@ -18,6 +19,7 @@ pub(crate) fn ready(count: Rounds, size: usize, area: usize, place: usize) -> Ve
 }
 
 // The refusal that comes after the rounds: all that there are were done, and the table is not quiet.
+#[tactic(auto, using(crate::proofs::AllowedLaws::below_fine, crate::proofs::AllowedLaws::quiet_fine, crate::proofs::AllowedLaws::largest_refused))]
 pub(crate) fn unsettled(count: Rounds, quiet: bool) -> Verdict
     ensures { result ≡ rest_for count.0 quiet }
 {

@@ -1,16 +1,7 @@
 -- A turn of the search ends it at the link at place k, or leaves it to the links behind; past the last link nothing is heard.
 use Rattle.std.proofs.Common.{sym, ◌∙◌}
-use borrow.Author.Tests.{eq-eqb}
-use Rattle.links.specs.Neighbours.{neighbour}
-use Rattle.links.proofs.NeighbourLaws.{search_start, search_found, search_on, search_end, search_short}
+use Rattle.links.proofs.NeighbourLaws.{search_found, search_on, search_end, search_short}
 use Rattle.links.proofs.is_neighbour.Goals as goal
-
-pub returns-then-other-eq0 : goal.returns-then-other-eq0
-unfolding neighbour
-returns-then-other-eq0 c = rw (eq-eqb _ _ c.if-other-eq0.true)
-
-pub loop-k-init : goal.loop-k-init
-loop-k-init c = (c.if-other-eq0.false, search_start _ _ _ _ c.if-other-eq0.false)
 
 pub returns-then-highs-k : goal.returns-then-highs-k
 returns-then-highs-k c = sym (c.loop-k.invariant.1 ∙ search_short _ _ _ _ c.loop-k.invariant.0 _ c.if-highs-k.true)
