@@ -9,7 +9,7 @@ use native.Mathlib.Omega.{arith}
 use lib.ListN.{length, get_or, drop, drop_of_length-le, length-append}
 use lib.Seq.{sets, drop-cons}
 use lib.Dec.{leb, eqb}
-use borrow.Author.Tests.{leb-true, eq-eqb, eqb-true}
+use borrow.Author.Tests.{leb-true, eq-eqb, eqb-true, ne_eqb}
 use Rattle.wire.specs.Big.{bytes_of}
 use Rattle.wire.proofs.StoreLaws.{sets_append, put_then, put_both}
 use Rattle.wire.proofs.BigLaws.{length_bytes_of}
@@ -127,6 +127,21 @@ pub group_go : (l : List ℕ) (at : ℕ) (group rest : List ℕ) {m n o : List �
 unfolding group_made
 group_go l at group rest e =
     made_go l at 3 (eqb (length group) 32) group rest 32 (at + 35) (eq-eqb _ _ e) (sym e) (omega arith)
+
+-- the same in equations: the stores of a group of 32 bytes and its length, and what a group of another size makes
+pub group_put : (l : List ℕ) (at : ℕ) (group rest : List ℕ) → length group ≡ 32
+    → sets (sets (sets l at (3 ∷ bytes_of 2 32)) (at + 3) group) (at + 35) rest ≡ sets l at (group_made group rest)
+group_put l at group rest e = (group_go l at group rest e refl refl (refl, refl)).0
+
+pub group_length : (group rest : List ℕ) → length group ≡ 32 → length (group_made group rest) ≡ 35 + length rest
+group_length group rest e = let g = group_go [] 0 group rest e refl refl (refl, refl) in omega (arith, g.1)
+
+pub group_cut : (group rest : List ℕ) → (length group ≡ 32 → ⊥) → group_made group rest ≡ 3 ∷ bytes_of 2 65535
+unfolding group_made
+group_cut group rest e = made_wrong 3 (eqb (length group) 32) group rest (ne_eqb _ _ e)
+
+pub cut_length : (group rest : List ℕ) → (length group ≡ 32 → ⊥) → length (group_made group rest) ≡ 3
+cut_length group rest e = ap length (group_cut group rest e) ∙ ap suc (length_bytes_of 2 65535)
 
 -- the test of `links_made`: three numbers to a link, and at most 1,024 links
 abbrev pub links_right : List ℕ → Bool

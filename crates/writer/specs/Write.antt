@@ -1,7 +1,6 @@
 -- What Write answers for the file that the numbers make. Sizes and places are in bytes.
 use Rattle.std.specs.Prelude.{ℕ, List, length}
 use Rattle.answers.specs.declared.refusal.Verdict.{Verdict}
-use Rattle.answers.specs.declared.refusal.Verdict.TheVariants.{Refused}
 use Rattle.answers.specs.Verdicts.{◌then◌, by_verdict}
 use Rattle.park.specs.Reading.{verdict_of}
 use Rattle.answers.specs.declared.WriteAnswer as written

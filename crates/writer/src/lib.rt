@@ -1,5 +1,7 @@
 // Write: a park given by its numbers, as its file in a lent area. The numbers are put into a local array, which is
 // checked like any file, so that the refusals are Check's; only then is the lent area touched. Places are in bytes.
+#![tactic(auto)]
+
 mod made;
 
 ghost use Rattle.std.specs.Prelude.{◌≡◌, ℕ, List, length};
