@@ -1,5 +1,5 @@
 -- Any two outcomes that a call's contract allows coincide. Exact and Right, which are stated by the exact table, have this in their
--- own crates (`Exact-one`, `right_one`). Counts are in rounds, sizes and places in bytes.
+-- own crates (`exact_one`, `right_one`). Counts are in rounds, sizes and places in bytes.
 use Prim.Native.Nat.{ℕ}
 use mathlib.Core.Path.{◌≡◌, sym, ◌∙◌}
 use mathlib.Core.List.{List}

@@ -62,10 +62,10 @@ module _ (lows highs : List ℕ) (i q : ℕ) (some : q ≡ 0 → ⊥) where
       go (l ∷ ls) = refl
 
   -- a turn of the search ends it at the link at place k where q is its sender, and else leaves it to the links behind
-  module _ (k s : ℕ) (inLows : k < length lows) (inHighs : k < length highs) (heard : s ≡ other_end (get_or lows k 0) (get_or highs k 0) i) where
+  module _ (k s : ℕ) (in_lows : k < length lows) (in_highs : k < length highs) (heard : s ≡ other_end (get_or lows k 0) (get_or highs k 0) i) where
     turn : heard_from lows highs i q k ≡ (eqb s q || heard_from lows highs i q (suc k))
     unfolding heard_from ends_of
-    turn = rw (drop-cons lows k 0 inLows, drop-cons highs k 0 inHighs, heard) (hears_link _ _ i q some)
+    turn = rw (drop-cons lows k 0 in_lows, drop-cons highs k 0 in_highs, heard) (hears_link _ _ i q some)
 
     pub search_found : s ≡ q → heard_from lows highs i q k ≡ true
     search_found e = rw (turn, eq-eqb s q e)

@@ -6,10 +6,10 @@ use Rattle.measure.specs.Measure.{most_nodes, most_links}
 use Rattle.park.specs.Layout.{first_link, end_at}
 use Rattle.park.specs.ParkFile.{ParkFile}
 use Rattle.park.specs.Reading.{refused, nodes_in, link_count, verdict_of, file_in, park, read_park, head_of, ReadAs, read_answer, check_of}
-use Rattle.answers.specs.declared.CheckAnswer.TheVariants.{Park, Refused as checkedRefused}
+use Rattle.answers.specs.declared.CheckAnswer.TheVariants.{Park, Refused as told_refused}
 use Rattle.answers.specs.declared.CheckAnswer.{CheckAnswer}
 use Rattle.answers.specs.declared.Head.{Head}
-use Rattle.answers.specs.declared.ReadAnswer.TheVariants.{Park as read_head, Refused as readRefused}
+use Rattle.answers.specs.declared.ReadAnswer.TheVariants.{Park as read_head, Refused as read_refused}
 use Rattle.answers.specs.declared.ReadAnswer.{ReadAnswer}
 use Rattle.answers.specs.declared.refusal.Verdict.TheVariants.{Fine, Refused}
 use Rattle.answers.specs.declared.refusal.Verdict.{Verdict}
@@ -33,7 +33,7 @@ checked_park s n l b e = go (verdict_of s) refl
         let k : link_count s ≡ l = cc in
         (file_in s, simp p, m, length_links s first_link (link_count s) ∙ k)
     go (Refused r) p =
-        let q : ◌≡◌ {A = CheckAnswer} (checkedRefused r) (Park n l) = rw p at e in
+        let q : ◌≡◌ {A = CheckAnswer} (told_refused r) (Park n l) = rw p at e in
         let z : ◌≡◌ {A = ℕ} 0 1 = cc in
         absurd (omega arith)
 
@@ -51,17 +51,17 @@ checked_sizes s n l b e =
     )
 
 -- a file that Check refuses is refused by reading, with the same refusal
-pub checked_refused : (s : List ℕ) (r : Refusal) → check_of s ≡ checkedRefused r → read_park s ≡ refused r
+pub checked_refused : (s : List ℕ) (r : Refusal) → check_of s ≡ told_refused r → read_park s ≡ refused r
 unfolding check_of read_park
 checked_refused s r e = go (verdict_of s) refl
   where
     go : (v : Verdict) → verdict_of s ≡ v → read_park s ≡ refused r
     go Fine p =
-        let q : ◌≡◌ {A = CheckAnswer} (Park (nodes_in s) (link_count s)) (checkedRefused r) = rw p at e in
+        let q : ◌≡◌ {A = CheckAnswer} (Park (nodes_in s) (link_count s)) (told_refused r) = rw p at e in
         let z : ◌≡◌ {A = ℕ} 0 1 = cc in
         absurd (omega arith)
     go (Refused x) p =
-        let q : ◌≡◌ {A = CheckAnswer} (checkedRefused x) (checkedRefused r) = rw p at e in
+        let q : ◌≡◌ {A = CheckAnswer} (told_refused x) (told_refused r) = rw p at e in
         let y : x ≡ r = cc in
         simp (p, y)
 
@@ -76,21 +76,21 @@ head_found s h e = go (verdict_of s) refl
         let f : head_of s ≡ h = cc in
         rw (← f) (record { fine = p; nodes = refl; root = refl; links = refl })
     go (Refused r) p =
-        let q : ◌≡◌ {A = ReadAnswer} (readRefused r) (read_head h) = rw p at e in
+        let q : ◌≡◌ {A = ReadAnswer} (read_refused r) (read_head h) = rw p at e in
         let z : ◌≡◌ {A = ℕ} 0 1 = cc in
         absurd (omega arith)
 
 -- and of one that it refuses
-pub refusal_found : (s : List ℕ) (r : Refusal) → read_answer s ≡ readRefused r → verdict_of s ≡ Refused r
+pub refusal_found : (s : List ℕ) (r : Refusal) → read_answer s ≡ read_refused r → verdict_of s ≡ Refused r
 unfolding read_answer
 refusal_found s r e = go (verdict_of s) refl
   where
     go : (v : Verdict) → verdict_of s ≡ v → verdict_of s ≡ Refused r
     go Fine p =
-        let q : ◌≡◌ {A = ReadAnswer} (read_head (head_of s)) (readRefused r) = rw p at e in
+        let q : ◌≡◌ {A = ReadAnswer} (read_head (head_of s)) (read_refused r) = rw p at e in
         let z : ◌≡◌ {A = ℕ} 0 1 = cc in
         absurd (omega arith)
     go (Refused x) p =
-        let q : ◌≡◌ {A = ReadAnswer} (readRefused x) (readRefused r) = rw p at e in
+        let q : ◌≡◌ {A = ReadAnswer} (read_refused x) (read_refused r) = rw p at e in
         let y : x ≡ r = cc in
         p ∙ ap Refused y

@@ -52,8 +52,8 @@ fn offer_all(node: usize, lows: &[u16], highs: &[u16], costs: &[u16], dists: &mu
 // Settles the nearest node that is not settled, if there is one.
 fn settle_nearest(lows: &[u16], highs: &[u16], costs: &[u16], dists: &mut [u32], done: &mut [u8])
     ensures nearer { let links : List Link = links_of lows.now highs.now costs.now in
-        let old : Work = record { dists = dists.entry.now; done = done.old } in
-        settle_nearest links old ≡ record { dists = dists.exit.now; done = done.new } }
+        let old : Work = record { dists = dists.old; done = done.old } in
+        settle_nearest links old ≡ record { dists = dists.new; done = done.new } }
 {
     let node = nearest_node(dists, done);
     if node == 0 {
@@ -66,8 +66,8 @@ fn settle_nearest(lows: &[u16], highs: &[u16], costs: &[u16], dists: &mut [u32],
 // Settles the nodes, one a turn, nearest first.
 fn settle_nodes(lows: &[u16], highs: &[u16], costs: &[u16], dists: &mut [u32], done: &mut [u8])
     ensures nearer { let links : List Link = links_of lows.now highs.now costs.now in
-        let old : Work = record { dists = dists.entry.now; done = done.old } in
-        settle_nodes links (length dists.entry.now) old ≡ record { dists = dists.exit.now; done = done.new } }
+        let old : Work = record { dists = dists.old; done = done.old } in
+        settle_nodes links (length dists.old) old ≡ record { dists = dists.new; done = done.new } }
 {
     let mut at = 0;
     while at < dists.len() {

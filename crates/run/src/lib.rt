@@ -31,7 +31,7 @@ fn run_apart(
     marks: &mut [u8],
 ) -> Ran
     requires read_as { ReadAs file.now head }
-    requires dists_len { (length dists.old ≡ nodes_in file.now)
+    requires lengths { (length dists.old ≡ nodes_in file.now)
         × (length parents.old ≡ nodes_in file.now)
         × (length marks.old ≡ nodes_in file.now) }
     ensures { let end : RunEnd = end_of (file_in file.now) count.0 in

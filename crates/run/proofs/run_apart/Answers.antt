@@ -40,7 +40,7 @@ slice_bounds-run-end-3 c =
 pub returns : goal.returns
 returns c =
     let read = c.requires.read_as in
-    let long = c.requires.dists_len in
+    let long = c.requires.lengths in
     let park = c.take_park.ensures.taken in
     let state = c.take_state.ensures.taken in
     let n = c.wide-l.ensures.0 in

@@ -24,8 +24,8 @@ slice_bounds-marks-end c = nodes_room _ _ c.requires.0.fine (c.wide-n.ensures.0 
 pub slice_bounds-run_apart-end-3 : goal.slice_bounds-run_apart-end-3
 slice_bounds-run_apart-end-3 c = part _ _ (nodes_room _ _ c.requires.0.fine (c.wide-n.ensures.0 ∙ c.requires.0.nodes))
 
-pub run_apart-ran-requires-clause-dists_len : goal.run_apart-ran-requires-clause-dists_len
-run_apart-ran-requires-clause-dists_len c =
+pub run_apart-ran-requires-clause-lengths : goal.run_apart-ran-requires-clause-lengths
+run_apart-ran-requires-clause-lengths c =
     let long = c.wide-n.ensures.0 ∙ c.requires.0.nodes in
     let few = nodes_room _ _ c.requires.0.fine long in
     (sym (part _ _ few) ∙ long, sym (part _ _ few) ∙ long, sym (part _ _ few) ∙ long)
