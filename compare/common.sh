@@ -1,6 +1,6 @@
 # Read by `run` and `bench`, which set `given`: goes to the repository's root, and says how the library
 # is proved and built, and how a program is compiled and linked with it. The archive is for x86-64: on
-# another processor the kit's clang and linker make C programs for it, and the kit's emulator runs them.
+# another processor C programs for it want a kit with a clang, a linker and an emulator for that processor.
 cd "$(dirname "${BASH_SOURCE[0]}")/.."
 out=target/compare
 mkdir -p "$out"
