@@ -1,7 +1,7 @@
 // Cases E and L of document 01 and the inputs that settle refuses, each opened from a file, run and printed.
 #![tactic(auto)]
 
-ghost use Rattle.console.specs.Counts.{IsPrefixLen};
+ghost use Rattle.io.specs.Counts.{IsPrefixLen};
 
 use answers::ExactAnswer;
 use console::ROOM;

@@ -1,6 +1,6 @@
 -- A number of bytes that are there counts them.
 use Rattle.std.proofs.Common.{ℕ, ◌≤◌, List, length, sym, length-take-le}
-use Rattle.console.specs.Counts.{IsPrefixLen}
+use Rattle.io.specs.Counts.{IsPrefixLen}
 
 pub counts : (n : ℕ) (xs : List ℕ) → n ≤ length xs → IsPrefixLen n xs
 counts n xs h = (h, sym (length-take-le n xs h))

@@ -1,7 +1,7 @@
 // Reading in pieces, from a pipe too, until the room is full, the input ends or a read fails.
 ghost use Rattle.std.specs.Prelude.{◌<◌, length, take, IsNone};
 ghost use Rattle.std.specs.Io.KnownBytes.{Consumes, IsAtEnd};
-ghost use Rattle.console.specs.Counts.{IsPrefixLen};
+ghost use Rattle.io.specs.Counts.{IsPrefixLen};
 
 use std::io::{Error, Read};
 

@@ -1,7 +1,7 @@
 // The text that settle prints, of a settled table and of a refusal, put into a page piece by piece. What does not fit is
 // left out.
 ghost use Rattle.std.specs.Prelude.{◌≤◌, length};
-ghost use Rattle.console.specs.Counts.{IsPrefixLen};
+ghost use Rattle.io.specs.Counts.{IsPrefixLen};
 
 use answers::refusal::Refusal;
 use itoa::Buffer;

@@ -200,3 +200,6 @@ file_small n root links group ds ps ms =
     made_small 2 6144 (3 + 32 + (3 + 1792 + 0)) (links_right links) (numbers links) (group_made group (state_made n ds ps ms))
     (λ e. omega (arith, length_numbers links, links_few links e)) group' in
     omega (arith, links', length_file n root (links_made links (group_made group (state_made n ds ps ms))))
+
+-- what the group's field is proved from
+pub ruleset group_field = (group_put, group_length, group_cut, cut_length)

@@ -101,7 +101,7 @@ fn make_state(
 }
 
 // Makes the group's field at a place, and the state's behind it; answers where they end.
-#[tactic(auto, using(crate::proofs::MakeLaws::group_put, crate::proofs::MakeLaws::group_length, crate::proofs::MakeLaws::group_cut, crate::proofs::MakeLaws::cut_length))]
+#[tactic(auto, using(crate::proofs::MakeLaws::group_field))]
 fn make_group(
     out: &mut [u8],
     at: usize,
