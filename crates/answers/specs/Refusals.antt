@@ -1,5 +1,6 @@
 -- Document 01's table "Numbers given back": the number and the place, in bytes, of each refusal.
-use Rattle.std.specs.Prelude.{ℕ}
+use Rattle.std.specs.Fmt.{decimal}
+use Rattle.std.specs.Prelude.{ℕ, List, ◌++◌, codes}
 use Rattle.answers.specs.declared.refusal.Refusal.TheVariants.{Short, Tag, Length, Bounds, Ends, Order, Bit, After, Room, Count, Unsettled, Node}
 use Rattle.answers.specs.declared.refusal.Refusal.{Refusal}
 
@@ -32,3 +33,7 @@ place_of Room = 0
 place_of Count = 0
 place_of Unsettled = 0
 place_of Node = 0
+
+-- how a refusal is printed: its number and its place, in decimal
+abbrev pub refusal_text : Refusal → List ℕ
+refusal_text r = codes "refused " ++ decimal (number_of r) ++ codes " at " ++ decimal (place_of r)

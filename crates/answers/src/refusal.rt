@@ -2,8 +2,10 @@
 ghost use Rattle.std.specs.Prelude.{◌≡◌};
 ghost use Rattle.answers.specs.Refusals.{number_of, place_of};
 
+use std::fmt;
+
 // A refusal. The place, where it is not 0, is in bytes from the file's start.
-#[derive(Clone, Copy)]
+#[derive(Clone, Copy, Debug, PartialEq, Eq)]
 pub enum Refusal {
     // Bytes end where a field is still due, or inside it: where the field starts, in bytes.
     Short(usize),
@@ -29,13 +31,6 @@ pub enum Refusal {
     Unsettled,
     // The number asked about is no node.
     Node,
-}
-
-// What a step of reading finds: nothing to refuse, or a refusal.
-#[derive(Clone, Copy)]
-pub enum Verdict {
-    Fine,
-    Refused(Refusal),
 }
 
 impl Refusal {
@@ -64,18 +59,27 @@ impl Refusal {
         ensures { result ≡ place_of self }
     {
         match self {
-            Refusal::Short(place) => place,
-            Refusal::Tag(place) => place,
             Refusal::Length(place) => place,
-            Refusal::Bounds => 0,
-            Refusal::Ends(place) => place,
-            Refusal::Order(place) => place,
-            Refusal::Bit(place) => place,
-            Refusal::After(place) => place,
-            Refusal::Room => 0,
-            Refusal::Count => 0,
-            Refusal::Unsettled => 0,
+            Refusal::Short(place)
+            | Refusal::Tag(place)
+            | Refusal::Ends(place)
+            | Refusal::Order(place)
+            | Refusal::Bit(place)
+            | Refusal::After(place) => place,
             Refusal::Node => 0,
+            Refusal::Bounds | Refusal::Room | Refusal::Count | Refusal::Unsettled => 0,
         }
+    }
+}
+
+impl fmt::Display for Refusal {
+    ghost use Rattle.std.specs.Prelude.{Some};
+    ghost use Rattle.answers.specs.Refusals.{refusal_text};
+
+    ghost output = { λ refusal. Some (refusal_text refusal) };
+
+    fn fmt<W: fmt::Write>(&self, f: &mut fmt::Formatter<W>) -> fmt::Result {
+        let (number, place) = (self.number(), self.place());
+        write!(f, "refused {number} at {place}")
     }
 }

@@ -8,11 +8,10 @@ use Rattle.answers.proofs.VerdictLaws.{then_fine, unless_fine}
 use Rattle.park.specs.Layout.{first_link, first_cell}
 use Rattle.park.specs.ParkFile.{state_bytes, encode, with_state}
 use Rattle.park.specs.Reading.{verdict_of, file_in, nodes_in, link_count, read_park, park}
-use Rattle.answers.specs.declared.refusal.Verdict.TheVariants.{Fine, Refused}
-use Rattle.answers.specs.declared.refusal.Verdict.{Verdict}
+use Rattle.std.specs.Prelude.{Err}
 use Rattle.answers.specs.declared.refusal.Refusal.TheVariants.{Room}
 use Rattle.answers.specs.declared.refusal.Refusal.{Refusal}
-use Rattle.answers.specs.Verdicts.{unless, ◌then◌}
+use Rattle.answers.specs.Verdicts.{Verdict, fine, unless, ◌then◌}
 use Rattle.rule.specs.Round.{Cell}
 use Rattle.wire.specs.Big.{Bytes}
 use borrow.Author.Tests.{leb-true, le-leb, lt-leb}
@@ -23,20 +22,20 @@ use mathlib.Core.Path.{◌≡◌, refl, sym, ap, ◌∙◌}
 use native.Mathlib.Omega.{arith}
 
 -- the verdict on the room, as its two tests give it
-pub room_beyond : (size area place : ℕ) → area < place → Refused Room ≡ room_for size area place
+pub room_beyond : (size area place : ℕ) → area < place → Err Room ≡ room_for size area place
 unfolding room_for unless ◌then◌
 room_beyond size area place h = simp (lt-leb _ _ h)
 
-pub room_short : (size area place : ℕ) → place ≤ area → area - place < size → Refused Room ≡ room_for size area place
+pub room_short : (size area place : ℕ) → place ≤ area → area - place < size → Err Room ≡ room_for size area place
 unfolding room_for unless ◌then◌
 room_short size area place h l = simp (le-leb _ _ h, lt-leb _ _ l)
 
-pub room_enough : (size area place : ℕ) → place ≤ area → size ≤ area - place → Fine ≡ room_for size area place
+pub room_enough : (size area place : ℕ) → place ≤ area → size ≤ area - place → fine ≡ room_for size area place
 unfolding room_for unless ◌then◌
 room_enough size area place h l = simp (le-leb _ _ h, le-leb _ _ l)
 
 -- where there is room, the place and the file lie within the area
-pub room_fine : (size area place : ℕ) → room_for size area place ≡ Fine → (place ≤ area) × (size ≤ area - place)
+pub room_fine : (size area place : ℕ) → room_for size area place ≡ fine → (place ≤ area) × (size ≤ area - place)
 unfolding room_for
 room_fine size area place e =
     let p = then_fine _ _ e in
@@ -44,7 +43,7 @@ room_fine size area place e =
 
 -- a file put at the start of the part of an area that starts at a place
 pub area_put : (old file : List ℕ) (place : ℕ) → place ≤ length old → length file ≤ length old - place
-    → take place old ++ (sets (take (length old - place) (drop place old)) 0 file ++ drop (length old - place) (drop place old)) ≡ area_with Fine file place old
+    → take place old ++ (sets (take (length old - place) (drop place old)) 0 file ++ drop (length old - place) (drop place old)) ≡ area_with fine file place old
 unfolding area_with
 area_put old file place h l =
     let d : List ℕ = drop place old in
@@ -57,13 +56,13 @@ area_put old file place h l =
     rw (all, none, append-nil, put)
 
 -- without room the area stays, whatever file was to stand in it
-pub refused_stays : (v : Verdict) (r : Refusal) (file file' old new : List ℕ) (place : ℕ) → v ≡ Refused r → new ≡ area_with v file place old
-    → new ≡ area_with (Refused r) file' place old
+pub refused_stays : {v : Verdict} {r : Refusal} (file file' old new : List ℕ) (place : ℕ) → v ≡ Err r → new ≡ area_with (Err r) file place old
+    → new ≡ area_with v file' place old
 unfolding area_with
-refused_stays v r file file' old new place e f = f ∙ ap (λ (w : Verdict). area_with w file place old) e
+refused_stays file file' old new place e f = rw e f
 
 -- a file in an area, of which the part that holds the file is changed
-module _ (old mid file : List ℕ) (place i : ℕ) (vs : List ℕ) (before : place ≤ length old) (holds : mid ≡ area_with Fine file place old) where
+module _ (old mid file : List ℕ) (place i : ℕ) (vs : List ℕ) (before : place ≤ length old) (holds : mid ≡ area_with fine file place old) where
   size : place + length file - place ≡ length file
   size = omega arith
 
@@ -82,14 +81,14 @@ module _ (old mid file : List ℕ) (place i : ℕ) (vs : List ℕ) (before : pla
   behind = rw (size, rest) (drop_at file (drop (place + length file) old) (length file) refl)
 
   pub sets_in_area : (part : List ℕ) → part ≡ sets (take (place + length file - place) (drop place mid)) i vs
-      → take place mid ++ (part ++ drop (place + length file - place) (drop place mid)) ≡ area_with Fine (sets file i vs) place old
+      → take place mid ++ (part ++ drop (place + length file - place) (drop place mid)) ≡ area_with fine (sets file i vs) place old
   unfolding area_with
   sets_in_area part e =
       let p : part ≡ sets file i vs = e ∙ ap (λ (l : List ℕ). sets l i vs) lent in
       rw (front, behind, p, length-sets file i vs)
 
 -- a file that was not refused, with the bytes of another table for its state, is the file of the park with that table
-pub state_file : (s : List ℕ) (t : List Cell) → Bytes s → verdict_of s ≡ Fine → length t ≡ nodes_in s
+pub state_file : (s : List ℕ) (t : List Cell) → Bytes s → verdict_of s ≡ fine → length t ≡ nodes_in s
     → sets s (first_cell (link_count s)) (state_bytes t) ≡ encode (with_state (file_in s) t)
 unfolding read_park file_in
 state_file s t b e n =

@@ -1,9 +1,7 @@
 -- A file in a lent area: "written into the lent area from a place the caller gives; bytes before and after it stay", and
 -- "Every refusal leaves the lent area untouched". Sizes and places are in bytes.
-use Rattle.std.specs.Prelude.{ℕ, ◌+◌, ◌-◌, leb, length, take, drop, List, [], ◌∷◌, ◌++◌}
-use Rattle.answers.specs.Verdicts.{unless, ◌then◌}
-use Rattle.answers.specs.declared.refusal.Verdict.TheVariants.{Fine, Refused}
-use Rattle.answers.specs.declared.refusal.Verdict.{Verdict}
+use Rattle.std.specs.Prelude.{ℕ, ◌+◌, ◌-◌, leb, length, take, drop, List, [], ◌∷◌, ◌++◌, Ok, Err}
+use Rattle.answers.specs.Verdicts.{Verdict, unless, ◌then◌}
 use Rattle.answers.specs.declared.refusal.Refusal.TheVariants.{Room}
 use Rattle.wire.specs.Big.{bytes_of}
 
@@ -13,8 +11,8 @@ room_for size area place = unless (leb place area) Room then unless (leb size (a
 
 -- the area after a call with that verdict, from what it held before
 unfoldable pub area_with : Verdict → List ℕ → ℕ → List ℕ → List ℕ
-area_with Fine file place old = take place old ++ (file ++ drop (place + length file) old)
-area_with (Refused r) file place old = old
+area_with (Ok x) file place old = take place old ++ (file ++ drop (place + length file) old)
+area_with (Err r) file place old = old
 
 -- "each node: distance (4), parent (2), mark (1)"
 abbrev pub cell_bytes : ℕ → ℕ → ℕ → List ℕ

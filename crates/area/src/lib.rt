@@ -6,32 +6,29 @@ pub mod state;
 ghost use Rattle.std.specs.Prelude.{◌≡◌, ℕ, List, length};
 ghost use Rattle.area.specs.Area.{room_for, area_with};
 
-use answers::refusal::{Refusal, Verdict};
+use answers::refusal::Refusal;
 
 // Whether a file of so many bytes has room in an area of so many bytes from a place on.
 #[tactic(auto, using(crate::proofs::AreaLaws::room_beyond, crate::proofs::AreaLaws::room_short, crate::proofs::AreaLaws::room_enough))]
-pub fn room(size: usize, area: usize, place: usize) -> Verdict
+pub fn room(size: usize, area: usize, place: usize) -> Result<(), Refusal>
     ensures { result ≡ room_for size area place }
 {
     if area < place {
-        return Verdict::Refused(Refusal::Room);
+        return Err(Refusal::Room);
     }
     if area - place < size {
-        return Verdict::Refused(Refusal::Room);
+        return Err(Refusal::Room);
     }
-    Verdict::Fine
+    Ok(())
 }
 
 // Puts a file into the lent area from a place on, or answers that there is no room for it; bytes before and after stay.
-pub fn put_file(file: &[u8], area: &mut [u8], place: usize) -> Verdict
+pub fn put_file(file: &[u8], area: &mut [u8], place: usize) -> Result<(), Refusal>
     ensures put { let bytes : List ℕ = file.now in
         let old : List ℕ = area.old in
         (result ≡ room_for (length bytes) (length old) place) × (area.new ≡ area_with result bytes place old) }
 {
-    let found = room(file.len(), area.len(), place);
-    if let Verdict::Refused(r) = found {
-        return Verdict::Refused(r);
-    }
+    room(file.len(), area.len(), place)?;
     wire::bytes::put_bytes(&mut area[place..], 0, file);
-    Verdict::Fine
+    Ok(())
 }

@@ -3,7 +3,6 @@
 
 ghost use Rattle.io.specs.Counts.{IsPrefixLen};
 
-use answers::ExactAnswer;
 use console::ROOM;
 use measure::Rounds;
 use std::fs;
@@ -18,10 +17,9 @@ fn settle(rt: &HostRuntime, name: &str, count: Rounds) {
 
 // Writes the exact table of the file into the area, and prints what that comes to.
 fn show_exact(rt: &HostRuntime, file: &[u8], area: &mut [u8]) {
-    let found = exact::exact(file, area, 0);
-    match found {
-        ExactAnswer::Refused(refusal) => console::show_refusal(rt, refusal),
-        ExactAnswer::Done => console::show(rt, b"done\n"),
+    match exact::exact(file, area, 0) {
+        Ok(()) => console::show(rt, b"done\n"),
+        Err(refusal) => console::show_refusal(rt, refusal),
     }
 }
 

@@ -3,23 +3,20 @@
 // keeps state, allocates or blocks. include/chandvreksh.h declares them.
 #![tactic(auto)]
 
-ghost use Rattle.std.specs.Prelude.{◌≡◌, List, ℕ, length};
+ghost use Rattle.std.specs.Prelude.{◌≡◌, List, ℕ, Bool, Result, length};
 ghost use Rattle.park.specs.Reading.{check_of};
 ghost use Rattle.writer.specs.Made.{file_of};
 ghost use Rattle.area.specs.Area.{area_with};
 ghost use Rattle.writer.specs.Write.{write_verdict, write_of};
 ghost use Rattle.run.specs.Run.{run_answer, run_verdict, run_file};
-ghost use Rattle.answers.specs.declared.ExactAnswer.{ExactAnswer};
+ghost use Rattle.answers.specs.declared.refusal.Refusal.{Refusal};
 ghost use Rattle.exact.specs.Exact.{Exacted};
-ghost use Rattle.answers.specs.declared.RightAnswer.{RightAnswer};
 ghost use Rattle.right.specs.Right.{Judged};
 ghost use Rattle.way.specs.Way.{way_answer};
 ghost use Rattle.summary.specs.Summary.{summary_answer};
 ghost use Rattle.answers.specs.Values.{check_values, run_values, exact_values, write_values, right_values, way_values, summary_values};
 
-use answers::values::{
-    check_values, exact_values, right_values, run_values, summary_values, way_values, write_values,
-};
+use answers::values::Answer;
 use measure::Rounds;
 
 // Check: nodes, links.
@@ -27,7 +24,7 @@ use measure::Rounds;
 pub extern "C" fn chandvreksh_check(file: &[u8], answer: &mut [u64; 8])
     ensures { answer.new ≡ check_values (check_of file.now) }
 {
-    *answer = check_values(reader::check(file));
+    *answer = reader::check(file).values();
 }
 
 // Run: rounds done, and 1 if it is quiet. The count is in rounds, the place in bytes.
@@ -44,7 +41,7 @@ pub extern "C" fn chandvreksh_run(
         let old : List ℕ = area.old in
         area.new ≡ area_with (run_verdict s count (length old) place) (run_file s count) place old }
 {
-    *answer = run_values(run::run(file, Rounds(count), area, place));
+    *answer = run::run(file, Rounds(count), area, place).values();
 }
 
 // Exact: no values of its own. The place is in bytes.
@@ -55,11 +52,11 @@ pub extern "C" fn chandvreksh_exact(
     place: usize,
     answer: &mut [u64; 8],
 )
-    ensures { (found : ExactAnswer)
+    ensures { (found : Result (Unit {0}) Refusal)
         × Exacted file.now area.old place found area.new
         × (answer.new ≡ exact_values found) }
 {
-    *answer = exact_values(exact::exact(file, area, place));
+    *answer = exact::exact(file, area, place).values();
 }
 
 // Write: `links` has three numbers a link (lower node, higher node, cost in cost units), distances are in cost units, and
@@ -85,19 +82,20 @@ pub extern "C" fn chandvreksh_write(
         let old : List ℕ = area.old in
         area.new ≡ area_with (write_verdict file (length old) place) file place old }
 {
-    *answer = write_values(writer::write(
+    *answer = writer::write(
         nodes, root, links, group, distances, parents, marks, area, place,
-    ));
+    )
+    .values();
 }
 
 // Right: 1 for yes.
 #[unsafe(no_mangle)]
 pub extern "C" fn chandvreksh_right(file: &[u8], answer: &mut [u64; 8])
-    ensures { (found : RightAnswer)
+    ensures { (found : Result Bool Refusal)
         × Judged file.now found
         × (answer.new ≡ right_values found) }
 {
-    *answer = right_values(right::right(file));
+    *answer = right::right(file).values();
 }
 
 // Way: the node asked about, 0 reached, 1 broken or 2 looping, and the hops or the node.
@@ -105,7 +103,7 @@ pub extern "C" fn chandvreksh_right(file: &[u8], answer: &mut [u64; 8])
 pub extern "C" fn chandvreksh_way(file: &[u8], node: u16, answer: &mut [u64; 8])
     ensures { answer.new ≡ way_values (way_answer file.now node) }
 {
-    *answer = way_values(way::way(file, node));
+    *answer = way::way(file, node).values();
 }
 
 // Summary: members, marked nodes and served members, in nodes.
@@ -113,5 +111,5 @@ pub extern "C" fn chandvreksh_way(file: &[u8], node: u16, answer: &mut [u64; 8])
 pub extern "C" fn chandvreksh_summary(file: &[u8], answer: &mut [u64; 8])
     ensures { answer.new ≡ summary_values (summary_answer file.now) }
 {
-    *answer = summary_values(summary::summary(file));
+    *answer = summary::summary(file).values();
 }

@@ -10,13 +10,13 @@ use Rattle.wire.specs.Big.{Bytes, big, bytes_of}
 use Rattle.group.specs.Group.{bit_set, member_in}
 use Rattle.rule.specs.Round.{through, least, giving, before, first, chosen, new_dist, parent_at, asked, new_mark, new_cell, at, numbered, round, arcs_of, net_of}
 use Rattle.rule.proofs.Demand3 as demand3
-use Rattle.answers.specs.declared.refusal.Verdict.TheVariants.{Fine}
+use Rattle.std.specs.Prelude.{Result}
+use Rattle.answers.specs.declared.refusal.Refusal.{Refusal}
 use Rattle.park.specs.ParkFile.{park_in, field, link_bytes, state_bytes, encode, with_state}
-use Rattle.answers.specs.Verdicts.{unless, ◌then◌}
+use Rattle.answers.specs.Verdicts.{fine, unless, ◌then◌}
 use Rattle.park.specs.Reading.{field_at, bounds_of, head_in, link_at, links_from, links_in, bits_clear, group_in, state_in, end_in, verdict_of, links_read, cells_read, file_in, read_park, park}
 use Rattle.park.proofs.ParkLaws.{read_park_ok}
 use Rattle.area.specs.Area.{area_with}
-use Rattle.answers.specs.declared.ExactAnswer.{ExactAnswer}
 use Rattle.exact.specs.Exact.{exact_verdict, Exacted}
 use Rattle.chandvreksh.specs.Cases.{file_f, zeros, exact_f}
 
@@ -56,8 +56,8 @@ unfolding small bytes_of field link_bytes state_bytes encode
 bytes_f = small_bytes (file_f (zeros 4)) tt
 
 -- what Exact leaves in an area with room for it
-pub exact_f_lem : (old : List ℕ) (place : ℕ) (r : ExactAnswer) (new : List ℕ)
-    → Exacted (file_f (zeros 4)) old place r new → exact_verdict (file_f (zeros 4)) (length old) place ≡ Fine → new ≡ area_with Fine (file_f exact_f) place old
-exact_f_lem old place r new x fine =
-    x.written fine exact_f ((demand3.quiet (read_park_ok (file_f (zeros 4)) (file_in (file_f (zeros 4))) bytes_f read_f) exact_f).0 rests_f)
-    ∙ ap (λ (y : List ℕ). area_with Fine y place old) written_f
+pub exact_f_lem : (old : List ℕ) (place : ℕ) (r : Result (Unit {0}) Refusal) (new : List ℕ)
+    → Exacted (file_f (zeros 4)) old place r new → exact_verdict (file_f (zeros 4)) (length old) place ≡ fine → new ≡ area_with fine (file_f exact_f) place old
+exact_f_lem old place r new x taken =
+    x.written taken exact_f ((demand3.quiet (read_park_ok (file_f (zeros 4)) (file_in (file_f (zeros 4))) bytes_f read_f) exact_f).0 rests_f)
+    ∙ ap (λ (y : List ℕ). area_with fine y place old) written_f

@@ -4,10 +4,7 @@
 #![tactic(auto)]
 
 pub use answers::refusal::Refusal;
-pub use answers::{
-    CheckAnswer, Counts, ExactAnswer, Outcome, RightAnswer, RunAnswer, SummaryAnswer, WayAnswer,
-    WayOfNode, WriteAnswer,
-};
+pub use answers::{Counts, Outcome, Ran, Sizes, WayOfNode, Written};
 pub use exact::exact;
 pub use measure::{Cost, Hops, Rounds};
 pub use reader::check;

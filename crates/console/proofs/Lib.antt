@@ -1,2 +1,3 @@
 pub mod CountsLaws
 pub mod InputLaws
+pub mod TextLaws

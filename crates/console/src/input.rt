@@ -24,12 +24,7 @@ pub fn read<R: Read>(from: &mut R, room: &mut [u8]) -> Input
     let mut done = 0;
     while done < room.len() {
         match from.read(&mut room[done..]) {
-            Ok(0) => {
-                return Input {
-                    bytes: done,
-                    failed: None,
-                };
-            }
+            Ok(0) => break,
             Ok(more) => done += more,
             Err(error) => {
                 return Input {

@@ -6,20 +6,22 @@
 pub mod input;
 mod text;
 
-ghost use Rattle.std.specs.Prelude.{◌≤◌};
-ghost use Rattle.measure.specs.Measure.{most_nodes};
-
+use answers::Sizes;
 use answers::refusal::Refusal;
-use answers::{CheckAnswer, RunAnswer};
+use arrayvec::ArrayString;
+use input::Input;
 use measure::{NODES, Rounds};
 use park::layout::LARGEST;
+use std::fmt::{Display, Write};
 use std::io::{Error, Read};
+use table::Table;
+use text::Settled;
 
 // Room for a file and one byte more, in bytes: enough to see that bytes follow the largest one, whatever else is to come.
 pub const ROOM: usize = LARGEST + 1;
 
-// Room for the text of the largest table, in bytes: 256 lines of at most 20 bytes, the header and the rounds.
-const PAGE: usize = 6144;
+// Room for every text, in bytes: a line of a table has at most 25, and 256 bytes are left for the header and the rounds.
+const PAGE: usize = 26 * NODES;
 
 // Tells what failed, and why. Where that fails too, there is nowhere left to tell it.
 pub fn fail(rt: &impl Eprint, what: &str, error: &Error) {
@@ -33,22 +35,16 @@ pub fn show<R: Print + Eprint>(rt: &R, text: &[u8]) {
     }
 }
 
-// Prints the refusal.
-pub fn show_refusal<R: Print + Eprint>(rt: &R, refusal: Refusal) {
-    let mut page = [0u8; 64];
-    let end = text::put_refusal(&mut page, refusal);
-    show(rt, &page[..end]);
+// Prints a text and the end of its line in one piece. What the page does not hold is left out.
+fn show_text<R: Print + Eprint, T: Display + Drop>(rt: &R, text: T) {
+    let mut page = ArrayString::<PAGE>::new();
+    let _ = writeln!(page, "{text}");
+    show(rt, page.as_bytes());
 }
 
-// So many nodes, or as many as a park may have.
-fn within(nodes: u16) -> usize
-    ensures { result ≤ most_nodes }
-{
-    let n = wire::wide(nodes);
-    if NODES < n {
-        return NODES;
-    }
-    n
+// Prints the refusal.
+pub fn show_refusal<R: Print + Eprint>(rt: &R, refusal: Refusal) {
+    show_text(rt, refusal);
 }
 
 // Prints the state of a file of so many nodes and links, and the rounds done.
@@ -57,41 +53,39 @@ fn show_settled<R: Print + Eprint>(rt: &R, file: &[u8], nodes: u16, links: u16, 
     let mut parents = [0u16; NODES];
     let mut marks = [0u8; NODES];
     reader::apart::take_state(file, nodes, links, &mut dists, &mut parents, &mut marks);
-    let mut page = [0u8; PAGE];
-    let n = within(nodes);
-    let end = text::put_settled(&mut page, &dists[..n], &parents, &marks, rounds);
-    show(rt, &page[..end]);
+    let n = usize::from(nodes).min(NODES);
+    let table = Table {
+        dists: &dists[..n],
+        parents: &parents[..n],
+        marks: &marks[..n],
+    };
+    show_text(rt, Settled { table, rounds });
 }
 
-// Runs a file of so many nodes and links for at most so many rounds, and prints the table that it comes to.
-fn run_and_show<R: Print + Eprint>(rt: &R, file: &[u8], nodes: u16, links: u16, count: Rounds) {
+// Checks a file for its nodes and links, runs it and prints the table that it comes to; or answers the refusal.
+fn try_settle<R: Print + Eprint>(rt: &R, file: &[u8], count: Rounds) -> Result<(), Refusal> {
+    let Sizes { nodes, links } = reader::check(file)?;
     let mut settled = [0u8; ROOM];
-    let answer = run::run(file, count, &mut settled, 0);
-    match answer {
-        RunAnswer::Refused(refusal) => show_refusal(rt, refusal),
-        RunAnswer::Done { rounds, quiet: _ } => show_settled(rt, &settled, nodes, links, rounds),
-    }
+    let ran = run::run(file, count, &mut settled, 0)?;
+    show_settled(rt, &settled, nodes, links, ran.rounds);
+    Ok(())
 }
 
-// Checks the file first, for its nodes and links; the count is in rounds.
+// Settles a file in at most so many rounds, and prints the table or the refusal.
 pub fn settle_file<R: Print + Eprint>(rt: &R, file: &[u8], count: Rounds) {
-    let found = reader::check(file);
-    match found {
-        CheckAnswer::Refused(refusal) => show_refusal(rt, refusal),
-        CheckAnswer::Park { nodes, links } => run_and_show(rt, file, nodes, links, count),
+    if let Err(refusal) = try_settle(rt, file, count) {
+        show_refusal(rt, refusal);
     }
 }
 
 // Reads a file and settles it, in at most so many rounds.
 pub fn settle_from<R: Print + Eprint, I: Read>(rt: &R, from: &mut I, count: Rounds) {
     let mut file = [0u8; ROOM];
-    let got = input::read(from, &mut file);
-    if let Some(error) = got.failed {
-        fail(rt, "input", &error);
-        return;
+    let Input { bytes, failed } = input::read(from, &mut file);
+    match failed {
+        Some(error) => fail(rt, "input", &error),
+        None => settle_file(rt, &file[..bytes], count),
     }
-    let n = got.bytes;
-    settle_file(rt, &file[..n], count);
 }
 
 // The whole program settle.

@@ -1,13 +1,10 @@
 -- The table that is found is the exact one, and a park has no other, so that the area holds the file that Exact promises.
 use Prim.Native.Nat.{ℕ, ◌+◌, ◌≤◌, min}
 use Rattle.measure.specs.Measure.{most_links}
-use Rattle.answers.specs.declared.ExactAnswer.TheVariants as answer
-use Rattle.answers.specs.declared.ExactAnswer.{ExactAnswer}
+use Rattle.std.specs.Prelude.{Result, Ok, Err, IsErrAnd}
 use Rattle.answers.specs.declared.Head.{Head}
-use Rattle.answers.specs.Verdicts.{◌then◌, by_verdict}
-use Rattle.answers.proofs.VerdictLaws.{then_fine}
-use Rattle.answers.specs.declared.refusal.Verdict.TheVariants.{Fine, Refused}
-use Rattle.answers.specs.declared.refusal.Verdict.{Verdict}
+use Rattle.answers.specs.Verdicts.{Verdict, fine, ◌then◌}
+use Rattle.answers.proofs.VerdictLaws.{exit, then_fine}
 use Rattle.answers.specs.declared.refusal.Refusal.{Refusal}
 use Rattle.rule.proofs.Demand3.{exists, unique}
 use Rattle.rule.specs.Exact.{Exact}
@@ -23,7 +20,8 @@ use Rattle.park.proofs.RecordLaws.{length_links}
 use Rattle.park.proofs.ParkLaws.{fine_ok, fine_sizes}
 use Rattle.park.specs.Layout.{head_size, first_link, group_at, first_cell}
 use Rattle.park.specs.ParkFile.{park_in, state_bytes, encode, with_state}
-use Rattle.park.specs.Reading.{verdict_of, file_in, links_read, nodes_in, root_in, link_count, ReadAs}
+use Rattle.park.specs.Reading.{verdict_of, file_in, links_read, nodes_in, root_in, link_count, ReadAs, read_answer}
+use Rattle.park.proofs.CheckedLaws.{refusal_found}
 use Rattle.area.proofs.AreaLaws.{state_file}
 use Rattle.area.specs.Area.{room_for, area_with}
 use Rattle.exact.specs.Exact.{exact_verdict, FoundIn, Exacted}
@@ -35,45 +33,47 @@ use mathlib.Core.Path.{◌≡◌, refl, sym, ap, ap₂, subst, ◌∙◌}
 use native.Mathlib.Omega.{arith}
 
 -- a file that is refused leaves the area as it was
-pub exact_refused : (s old : List ℕ) (place : ℕ) (v : Refusal) → verdict_of s ≡ Refused v → Exacted s old place (answer.Refused v) old
+pub exact_refused : (s old : List ℕ) (place : ℕ) {x : Result (Unit {0}) Refusal} (v : Refusal) → read_answer s ≡ Err v → IsErrAnd x (λ y. y ≡ v)
+    → Exacted s old place x old
 unfolding exact_verdict ◌then◌
-exact_refused s old place v e =
-    record { answer = simp e; untouched = λ u f. refl; written = λ f t x. never f }
+exact_refused s old place v e x =
+    let r = refusal_found s v e in
+    record { answer = exit x (simp r); untouched = λ u f. refl; written = λ f t y. never r f }
   where
-    never : {A : Type 0} → (verdict_of s then room_for (length s) (length old) place) ≡ Fine → A
-    never f = let g : verdict_of s ≡ Fine = (then_fine (verdict_of s) (room_for (length s) (length old) place) f).0 in let z : ◌≡◌ {A = ℕ} 0 1 = cc in absurd (omega arith)
+    never : {A : Type 0} → verdict_of s ≡ Err v → (verdict_of s then room_for (length s) (length old) place) ≡ fine → A
+    never r f = let g : verdict_of s ≡ fine = (then_fine (verdict_of s) (room_for (length s) (length old) place) f).0 in let z : ◌≡◌ {A = ℕ} 0 1 = cc in absurd (omega arith)
 
 -- for any other the room decides
-module _ (s : List ℕ) (b : Bytes s) (fine : verdict_of s ≡ Fine) (old new : List ℕ) (place : ℕ) (v w : Verdict) (is : v ≡ w)
+module _ (s : List ℕ) (b : Bytes s) (h : Head) (read : ReadAs s h) (old new : List ℕ) (place : ℕ) (v : Verdict)
     (room : v ≡ room_for (length s) (length old) place)
     (put : (e : List Cell) → Exact (park_in (file_in s)) e → new ≡ area_with v (encode (with_state (file_in s) e)) place old) where
-  verdict_is : exact_verdict s (length old) place ≡ w
+  verdict_is : exact_verdict s (length old) place ≡ v
   unfolding exact_verdict ◌then◌
-  verdict_is = simp fine (sym room ∙ is)
+  verdict_is = simp read.fine (sym room)
 
   area_is : (u : Verdict) → exact_verdict s (length old) place ≡ u → (e : List Cell) → Exact (park_in (file_in s)) e → new ≡ area_with u (encode (with_state (file_in s) e)) place old
-  area_is u h e x = put e x ∙ ap (λ (y : Verdict). area_with y (encode (with_state (file_in s) e)) place old) (is ∙ sym verdict_is ∙ h)
+  area_is u h e x = put e x ∙ ap (λ (y : Verdict). area_with y (encode (with_state (file_in s) e)) place old) (sym verdict_is ∙ h)
 
-  pub exact_put : Exacted s old place (by_verdict w answer.Done answer.Refused) new
+  pub exact_put : Exacted s old place v new
   unfolding area_with
   exact_put =
-      let t = exists (fine_ok s b fine) in
-      record { answer = ap (λ (u : Verdict). by_verdict u answer.Done answer.Refused) (sym verdict_is); untouched = λ u h. area_is (Refused u) h t.0 t.1; written = λ h. area_is Fine h }
+      let t = exists (fine_ok s b read.fine) in
+      record { answer = sym verdict_is; untouched = λ u h. area_is (Err u) h t.0 t.1; written = λ h. area_is fine h }
 
 -- any two outcomes that are allowed for a file and an area coincide
-pub exact_one : (s old : List ℕ) (place : ℕ) → Bytes s → (r r' : ExactAnswer) (new new' : List ℕ)
+pub exact_one : (s old : List ℕ) (place : ℕ) → Bytes s → (r r' : Result (Unit {0}) Refusal) (new new' : List ℕ)
     → Exacted s old place r new → Exacted s old place r' new' → (r ≡ r') × (new ≡ new')
 unfolding exact_verdict
 exact_one s old place b r r' new new' x y = (x.answer ∙ sym y.answer, go (exact_verdict s (length old) place) refl)
   where
-    fine : exact_verdict s (length old) place ≡ Fine → verdict_of s ≡ Fine
-    fine e = (then_fine _ _ e).0
+    taken : exact_verdict s (length old) place ≡ fine → verdict_of s ≡ fine
+    taken e = (then_fine _ _ e).0
 
     go : (v : Verdict) → exact_verdict s (length old) place ≡ v → new ≡ new'
-    go Fine e =
-        let t = exists (fine_ok s b (fine e)) in
+    go (Ok _) e =
+        let t = exists (fine_ok s b (taken e)) in
         x.written e t.0 t.1 ∙ sym (y.written e t.0 t.1)
-    go (Refused v) e = x.untouched v e ∙ sym (y.untouched v e)
+    go (Err v) e = x.untouched v e ∙ sym (y.untouched v e)
 
 -- what is found in the first parts of arrays into which a park was taken is what is found for it
 module _ (s : List ℕ) (h : Head) (c l : ℕ) (few : c ≡ min most_links h.links) (all : l ≡ c) where

@@ -2,15 +2,16 @@
 use Prim.Native.Nat.{ℕ, zero, suc, ◌+◌, ◌-◌, ◌*◌, ◌/◌, ◌%◌, ◌^◌, ◌≤◌, ◌<◌}
 use mathlib.Core.Path.{◌≡◌, refl, sym, ap, ◌∙◌, subst}
 use mathlib.Core.Bool.{Bool, true, false, cond}
-use mathlib.Core.List.{List}
+use mathlib.Core.List.{List, [], ◌∷◌}
 use native.Mathlib.Nat.{add-zero, zero-add, zero-lt-suc, mod-lt, div-one}
 use native.Mathlib.Numerals.{add-one}
 use native.Mathlib.Omega.{arith}
-use lib.ListN.{get_or}
+use lib.ListN.{get_or, take}
 use lib.Dec.{T, eqb}
 use lib.Arith.{lt-one}
-use lib.Pow.{pow_pos, shr_lt, shr-shr}
-use lib.Count.{ones, ones_step}
+use lib.Pow.{shr_lt, shr-shr}
+use lib.Count.{ones, ones_step, ones-le}
+use Rattle.std.specs.List.{sum_by}
 use Rattle.rule.specs.Round.{numbered}
 use Rattle.group.specs.Group.{bit_set, member_in}
 use Rattle.group.specs.Count.{count, members_of}
@@ -34,7 +35,7 @@ bits_from (suc n) x d h =
     ∙ sym (ones_step (x / 2 ^ d))
 
 -- the set bits of a word of n bits are its ones
-pub bits_ones : (n x : ℕ) → x < 2 ^ n → count (bit_set x) (numbered 0 n) ≡ ones x
+bits_ones : (n x : ℕ) → x < 2 ^ n → count (bit_set x) (numbered 0 n) ≡ ones x
 bits_ones n x h =
     let whole : x / 2 ^ 0 ≡ x = div-one x in
     bits_from n x 0 (subst (λ (y : ℕ). y < 2 ^ n) (sym whole) h) ∙ ap ones whole
@@ -77,7 +78,26 @@ members_within words n h within =
         go true k = absurd (omega (arith, k tt))
         go false k = refl
 
--- a word that is not there has no set bit
-pub bits_none : (n : ℕ) → count (bit_set 0) (numbered 0 n) ≡ 0
-unfolding ones
-bits_none n = bits_ones n 0 (pow_pos n)
+-- what four words give, where a word that is not there gives nothing
+four_words : (f : ℕ → ℕ) → f 0 ≡ 0 → (words : List ℕ) → sum_by f (take 4 words)
+    ≡ (f (get_or words 0 0) + f (get_or words 1 0)) + (f (get_or words 2 0) + f (get_or words 3 0))
+four_words f e [] = rw e
+four_words f e (a ∷ []) = rw e (omega arith)
+four_words f e (a ∷ b ∷ []) = rw e (omega arith)
+four_words f e (a ∷ b ∷ c ∷ []) = rw e (omega arith)
+four_words f e (a ∷ b ∷ c ∷ d ∷ words) = omega arith
+
+module _ (words : List ℕ) (fits : (j : ℕ) → get_or words j 0 < 2 ^ 64) where
+  -- the ones of the first four words are the members
+  pub ones_sum : sum_by ones (take 4 words) ≡ members_of words
+  unfolding ones
+  ones_sum =
+      four_words ones refl words
+      ∙ sym (members_words words ∙ rw (bits_ones 64 _ (fits 0), bits_ones 64 _ (fits 1), bits_ones 64 _ (fits 2), bits_ones 64 _ (fits 3)))
+
+  -- and a word of 64 bits has no more
+  pub ones_few : sum_by ones (take 4 words) ≤ 256
+  unfolding ones
+  ones_few =
+      rw (four_words ones refl words)
+      (omega (arith, ones-le 64 _ (fits 0), ones-le 64 _ (fits 1), ones-le 64 _ (fits 2), ones-le 64 _ (fits 3)))

@@ -1,74 +1,50 @@
--- What node i hears over the links of two slices, link by link from the front: each link is heard from one sender at most.
-use Prim.Native.Nat.{ℕ, suc, ◌+◌, ◌≤◌, ◌<◌}
-use mathlib.Core.Path.{◌≡◌, refl, sym}
-use mathlib.Core.Bool.{Bool, true, false, cond, ◌||◌, true≢false}
+-- What node i hears over the links of two slices, link by link: each link is heard from one sender at most.
+use Prim.Native.Nat.{ℕ}
+use mathlib.Core.Path.{◌≡◌, refl, ap, ◌∙◌}
+use mathlib.Core.Bool.{Bool, true, false, cond, not, ◌||◌}
 use mathlib.Core.List.{List, [], ◌∷◌}
-use native.Mathlib.Numerals.{add-one}
-use lib.ListN.{length, get_or, drop, drop_of_length-le}
-use lib.Seq.{drop-cons}
 use lib.Dec.{eqb}
 use borrow.Author.Tests.{eq-eqb, ne_eqb}
-use Rattle.rule.specs.Round.{Link, arcs_of}
-use Rattle.links.specs.Neighbours.{ends_of, other_end, hears, neighbour}
+use Rattle.std.specs.Prelude.{Some, None, unwrap_or}
+use Rattle.std.specs.List.{list_any, zip}
+use Rattle.rule.specs.Round.{Arc, Link, arcs_of}
+use Rattle.links.specs.Neighbours.{ends_of, other_end, far_end, hears, neighbour}
 
--- a node that is no end of a link has no other end of it
-pub no_end : (low high i : ℕ) → (eqb low i || eqb high i) ≡ false → 0 ≡ other_end low high i
-no_end low high i = go (eqb low i) (eqb high i)
+-- 0 stands for the end that is not there
+pub end_is : (low high i : ℕ) → unwrap_or (far_end low high i) 0 ≡ other_end low high i
+end_is low high i = go (eqb low i) (eqb high i)
   where
-    go : (a b : Bool) → (a || b) ≡ false → 0 ≡ cond a high (cond b low 0)
-    go true b e = absurd (true≢false e)
-    go false true e = absurd (true≢false e)
-    go false false e = refl
-
--- a link in front: its sender is heard, and what the rest tells
-pub hears_link : (l : Link) (ls : List Link) (i q : ℕ) → (q ≡ 0 → ⊥)
-    → hears (arcs_of (l ∷ ls) i) q ≡ (eqb (other_end l.low l.high i) q || hears (arcs_of ls i) q)
-unfolding hears arcs_of
-hears_link l ls i q h = go (eqb l.low i) (eqb l.high i)
-  where
-    go : (a b : Bool)
-        → hears (cond a (record { from = l.high; cost = l.cost } ∷ arcs_of ls i) (cond b (record { from = l.low; cost = l.cost } ∷ arcs_of ls i) (arcs_of ls i))) q
-        ≡ (eqb (cond a l.high (cond b l.low 0)) q || hears (arcs_of ls i) q)
+    go : (a b : Bool) → unwrap_or (cond a (Some high) (cond b (Some low) None)) 0 ≡ cond a high (cond b low 0)
     go true b = refl
     go false true = refl
-    go false false = rw (ne_eqb 0 q (λ e. h (sym e)))
+    go false false = refl
 
--- 0 is nobody's neighbour
-pub zero_neighbour : (ls : List Link) (i q : ℕ) → q ≡ 0 → false ≡ neighbour ls i q
+-- whether it is q that node i hears over the link between these two
+abbrev pub hears_over : ℕ → ℕ → ℕ → ℕ → Bool
+hears_over low high i q = elim (far_end low high i) [ Some j ↦ eqb j q | None ↦ false ]
+
+-- a search through the pairs of ends is one through what node i hears
+pub heard_pairs : (i q : ℕ) (lows highs : List ℕ) → list_any (λ (p : ℕ × ℕ). hears_over p.0 p.1 i q) (zip lows highs) ≡ hears (arcs_of (ends_of lows highs) i) q
+unfolding hears arcs_of ends_of
+heard_pairs i q [] highs = refl
+heard_pairs i q (l ∷ lows) [] = refl
+heard_pairs i q (l ∷ lows) (h ∷ highs) = ap (λ (b : Bool). hears_over l h i q || b) (heard_pairs i q lows highs) ∙ go (eqb l i) (eqb h i)
+  where
+    rest : List Arc
+    rest = arcs_of (ends_of lows highs) i
+
+    go : (a b : Bool)
+        → (elim (cond a (Some h) (cond b (Some l) None)) [ Some j ↦ eqb j q | None ↦ false ] || hears rest q)
+        ≡ hears (cond a (record { from = h; cost = 0 } ∷ rest) (cond b (record { from = l; cost = 0 } ∷ rest) rest)) q
+    go true b = refl
+    go false true = refl
+    go false false = refl
+
+-- 0 is nobody's neighbour, and any other number is one that is heard
+pub zero_neighbour : (ls : List Link) (i q : ℕ) → q ≡ 0 → not (eqb q 0) ≡ neighbour ls i q
 unfolding neighbour
 zero_neighbour ls i q h = rw (eq-eqb _ _ h)
 
--- what node i hears of q over the links from place k on
-unfoldable pub heard_from : List ℕ → List ℕ → ℕ → ℕ → ℕ → Bool
-heard_from lows highs i q k = hears (arcs_of (ends_of (drop k lows) (drop k highs)) i) q
-
-module _ (lows highs : List ℕ) (i q : ℕ) (some : q ≡ 0 → ⊥) where
-  -- a search of all the links starts at place 0
-  pub search_start : neighbour (ends_of lows highs) i q ≡ heard_from lows highs i q 0
-  unfolding neighbour heard_from
-  search_start = rw (ne_eqb q 0 some)
-
-  -- past the last link nothing is heard
-  pub search_end : (k : ℕ) → length lows ≤ k → heard_from lows highs i q k ≡ false
-  unfolding heard_from ends_of arcs_of hears
-  search_end k h = rw (drop_of_length-le lows h)
-
-  pub search_short : (k : ℕ) → length highs ≤ k → heard_from lows highs i q k ≡ false
-  unfolding heard_from ends_of arcs_of hears
-  search_short k h = rw (drop_of_length-le highs h) (go (drop k lows))
-    where
-      go : (ls : List ℕ) → hears (arcs_of (ends_of ls []) i) q ≡ false
-      go [] = refl
-      go (l ∷ ls) = refl
-
-  -- a turn of the search ends it at the link at place k where q is its sender, and else leaves it to the links behind
-  module _ (k s : ℕ) (in_lows : k < length lows) (in_highs : k < length highs) (heard : s ≡ other_end (get_or lows k 0) (get_or highs k 0) i) where
-    turn : heard_from lows highs i q k ≡ (eqb s q || heard_from lows highs i q (suc k))
-    unfolding heard_from ends_of
-    turn = rw (drop-cons lows k 0 in_lows, drop-cons highs k 0 in_highs, heard) (hears_link _ _ i q some)
-
-    pub search_found : s ≡ q → heard_from lows highs i q k ≡ true
-    search_found e = rw (turn, eq-eqb s q e)
-
-    pub search_on : (s ≡ q → ⊥) → heard_from lows highs i q k ≡ heard_from lows highs i q (k + 1)
-    search_on h = rw (turn, ne_eqb s q h, add-one)
+pub some_neighbour : (ls : List Link) (i q : ℕ) → (q ≡ 0 → ⊥) → neighbour ls i q ≡ hears (arcs_of ls i) q
+unfolding neighbour
+some_neighbour ls i q h = rw (ne_eqb _ _ h)

@@ -1,5 +1,5 @@
 -- Who is a node's neighbour, over the links that two slices hold. Nodes are numbered from 1, and 0 is no node.
-use Rattle.std.specs.Prelude.{ℕ, Bool, false, cond, ◌||◌, List, [], ◌∷◌, eqb}
+use Rattle.std.specs.Prelude.{ℕ, Bool, false, cond, ◌||◌, List, [], ◌∷◌, eqb, Option, Some, None}
 use Rattle.rule.specs.Round.{Arc, Link, arcs_of}
 
 -- the links between the ends that stand at the same places of two slices; their costs, which no way depends on, are left at 0
@@ -11,6 +11,10 @@ ends_of (l ∷ ls) (h ∷ hs) = record { low = l; high = h; cost = 0 } ∷ ends_
 -- the end of a link between these two that is not node u; 0 where u is none of them
 abbrev pub other_end : ℕ → ℕ → ℕ → ℕ
 other_end low high u = cond (eqb low u) high (cond (eqb high u) low 0)
+
+-- the same, and none where u is none of them
+abbrev pub far_end : ℕ → ℕ → ℕ → Option ℕ
+far_end low high u = cond (eqb low u) (Some high) (cond (eqb high u) (Some low) None)
 
 -- whether some of the arcs comes from q
 unfoldable pub hears : List Arc → ℕ → Bool

@@ -13,15 +13,15 @@ pub const NODES: usize = 256;
 pub const LINKS: usize = 1024;
 
 // A link's cost or a node's distance from the root, in cost units. Any 32-bit number may be stored as a distance.
-#[derive(Clone, Copy)]
+#[derive(Clone, Copy, Debug, PartialEq, Eq, PartialOrd, Ord)]
 pub struct Cost(pub u32);
 
 // A hop count: links passed on the way to the root, in hops.
-#[derive(Clone, Copy)]
+#[derive(Clone, Copy, Debug, PartialEq, Eq, PartialOrd, Ord)]
 pub struct Hops(pub u32);
 
 // A round count, in rounds.
-#[derive(Clone, Copy)]
+#[derive(Clone, Copy, Debug, PartialEq, Eq, PartialOrd, Ord)]
 pub struct Rounds(pub u32);
 
 impl Cost {
@@ -35,23 +35,15 @@ impl Cost {
     pub fn capped(self) -> Cost
         ensures { result.0 ≡ cap self.0 }
     {
-        let most = Cost::CEILING;
-        if most.0 < self.0 {
-            return most;
-        }
-        self
+        self.min(Cost::CEILING)
     }
 
-    // The distance over one link more, whose cost is `link`, in cost units: never above the ceiling, and it never wraps.
+    // The distance over one link more, whose cost is `link`, in cost units: never above the ceiling, and it never wraps. A sum that
+    // would is above the ceiling as well.
     pub fn plus(self, link: Cost) -> Cost
         ensures { result.0 ≡ plus self.0 link.0 }
     {
-        let most = Cost::CEILING;
-        let distance = self.capped();
-        if most.0 - distance.0 < link.0 {
-            return most;
-        }
-        Cost(distance.0 + link.0)
+        Cost(self.0.saturating_add(link.0)).capped()
     }
 }
 

@@ -1,10 +1,10 @@
 -- A field that stands at a place is read there, and a field that is read is the bytes that stand there.
+use Rattle.std.specs.Prelude.{Err}
 use Prim.Native.Nat.{ℕ, suc, ◌+◌, ◌%◌, ◌≤◌, ◌<◌}
 use Rattle.answers.proofs.VerdictLaws.{then_fine, unless_fine}
 use Rattle.park.specs.ParkFile.{field}
-use Rattle.answers.specs.Verdicts.{unless, ◌then◌}
+use Rattle.answers.specs.Verdicts.{fine, unless, ◌then◌}
 use Rattle.park.specs.Reading.{field_at, length_at}
-use Rattle.answers.specs.declared.refusal.Verdict.TheVariants.{Fine, Refused}
 use Rattle.answers.specs.declared.refusal.Refusal.TheVariants.{Short, Length}
 use Rattle.wire.proofs.BigLaws.{Has, has_left, has_right, has_at, has_length, written_read, read_written, length_bytes_of}
 use Rattle.wire.specs.Big.{Bytes, big, bytes_of}
@@ -65,7 +65,7 @@ field_written {s} {at} tag body h small =
 
 -- a field that was written, of a length that the rule allows, is not refused
 pub field_fine : {s : List ℕ} {at tag : ℕ} {body : List ℕ} (step low high : ℕ) → Written s at tag body
-    → length body % step ≡ 0 → low ≤ length body → length body ≤ high → field_at s at tag step low high ≡ Fine
+    → length body % step ≡ 0 → low ≤ length body → length body ≤ high → field_at s at tag step low high ≡ fine
 unfolding field_at unless ◌then◌
 field_fine {s} {at} {tag} {body} step low high w m l h =
     let head : at + 3 ≤ length s = omega (arith, w.room) in
@@ -81,7 +81,7 @@ pub record FieldRead (s : List ℕ) (at tag step low high : ℕ) : Type 0 where
   pub most : length_at s at ≤ high
   pub room : at + 3 + length_at s at ≤ length s
 
-pub field_read : (s : List ℕ) (at tag step low high : ℕ) → field_at s at tag step low high ≡ Fine → FieldRead s at tag step low high
+pub field_read : (s : List ℕ) (at tag step low high : ℕ) → field_at s at tag step low high ≡ fine → FieldRead s at tag step low high
 unfolding field_at
 field_read s at tag step low high e =
     let a = then_fine _ _ e in
@@ -116,7 +116,7 @@ field_part {s} {at} {tag} body k b r e f =
 
 -- a head that says 65,535 bytes is refused as 3, whatever the field: the length is no multiple of 6, and above all that others may have
 pub length_refused : {s : List ℕ} {at : ℕ} (tag step low high : ℕ) → Has s at (tag ∷ bytes_of 2 65535) → (65535 % step ≡ 0 → high < 65535)
-    → field_at s at tag step low high ≡ Refused (Length at)
+    → field_at s at tag step low high ≡ Err (Length at)
 unfolding field_at unless ◌then◌
 length_refused {s} {at} tag step low high h wrong =
     let n : length (tag ∷ bytes_of 2 65535) ≡ 3 = ap suc (length_bytes_of 2 65535) in
@@ -128,11 +128,11 @@ length_refused {s} {at} tag step low high h wrong =
   where
     go : (x : Bool) → eqb (65535 % step) 0 ≡ x
         → ◌then◌ (unless x (Length at)) (◌then◌ (unless (leb low 65535) (Length at)) (◌then◌ (unless (leb 65535 high) (Length at)) (unless (leb (at + 3 + 65535) (length s)) (Short at))))
-        ≡ Refused (Length at)
+        ≡ Err (Length at)
     go false e = refl
     go true e = low_too (leb low 65535) (lt-leb 65535 high (wrong (eqb-true _ _ e)))
       where
         low_too : (y : Bool) → leb 65535 high ≡ false
-            → ◌then◌ (unless y (Length at)) (◌then◌ (unless (leb 65535 high) (Length at)) (unless (leb (at + 3 + 65535) (length s)) (Short at))) ≡ Refused (Length at)
+            → ◌then◌ (unless y (Length at)) (◌then◌ (unless (leb 65535 high) (Length at)) (unless (leb (at + 3 + 65535) (length s)) (Short at))) ≡ Err (Length at)
         low_too false f = refl
         low_too true f = simp f

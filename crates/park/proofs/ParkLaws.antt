@@ -1,4 +1,7 @@
 -- A file that is read holds a park of document 01: its root and its links' ends are nodes, its costs are costs, and its members are nodes.
+use Rattle.table.proofs.PartLaws.{room_again, part_again}
+use lib.Seq.{length-take-le}
+use Rattle.answers.specs.Verdicts.{fine}
 use Prim.Native.Nat.{ℕ, zero, suc, ◌*◌, ◌-◌, ◌/◌, ◌%◌, ◌^◌, ◌≤◌, ◌<◌, min}
 use mathlib.Core.Path.{◌≡◌, sym, subst}
 use mathlib.Core.Logic.{⊎_elim}
@@ -15,7 +18,6 @@ use Rattle.rule.specs.Settles.{ParkOk}
 use Rattle.wire.specs.Big.{Bytes}
 use Rattle.group.specs.Group.{bit_set, member_in}
 use Rattle.park.specs.ParkFile.{ParkFile, ParkFileOk, park_in, LinkOk, LinksOk, key_of}
-use Rattle.answers.specs.declared.refusal.Verdict.TheVariants.{Fine}
 use Rattle.measure.specs.Measure.{most_nodes, most_links}
 use Rattle.park.specs.Layout.{end_at}
 use Rattle.park.specs.Reading.{nodes_in, link_count, verdict_of, file_in, read_park, park}
@@ -73,11 +75,11 @@ pub read_park_ok : (s : List ℕ) (f : ParkFile) → Bytes s → read_park s ≡
 read_park_ok s f b e = park_ok f (read_then_encode s f b e).1
 
 -- a file that is not refused is read as what its fields hold, and holds a park of document 01
-pub fine_read : (s : List ℕ) → verdict_of s ≡ Fine → read_park s ≡ park (file_in s)
+pub fine_read : (s : List ℕ) → verdict_of s ≡ fine → read_park s ≡ park (file_in s)
 unfolding read_park
 fine_read s e = simp e
 
-pub fine_ok : (s : List ℕ) → Bytes s → verdict_of s ≡ Fine → ParkOk (park_in (file_in s))
+pub fine_ok : (s : List ℕ) → Bytes s → verdict_of s ≡ fine → ParkOk (park_in (file_in s))
 fine_ok s b fine = read_park_ok s (file_in s) b (fine_read s fine)
 
 -- its sizes: at most 256 nodes and 1,024 links, and a length that follows from both
@@ -86,11 +88,14 @@ pub record Sizes (s : List ℕ) : Type 0 where
   pub links : link_count s ≤ most_links
   pub size : length s ≡ end_at (nodes_in s) (link_count s)
 
-pub fine_sizes : (s : List ℕ) → verdict_of s ≡ Fine → Sizes s
+pub fine_sizes : (s : List ℕ) → verdict_of s ≡ fine → Sizes s
 fine_sizes s fine = let r = file_read s fine in record { nodes = r.few; links = few_links s r; size = length_read s r }
 
-pub nodes_room : (s : List ℕ) (n : ℕ) → verdict_of s ≡ Fine → n ≡ nodes_in s → n ≤ most_nodes
+pub nodes_room : (s : List ℕ) (n : ℕ) → verdict_of s ≡ fine → n ≡ nodes_in s → n ≤ most_nodes
 nodes_room s n fine e = omega (arith, (fine_sizes s fine).nodes)
 
-pub links_room : (s : List ℕ) (links : ℕ) → verdict_of s ≡ Fine → links ≡ link_count s → links ≤ most_links
+pub links_room : (s : List ℕ) (links : ℕ) → verdict_of s ≡ fine → links ≡ link_count s → links ≤ most_links
 links_room s links fine e = omega (arith, (fine_sizes s fine).links)
+
+-- what the lengths of a file's slices are proved from: there is room for each in its array, and it is as long as it is asked for
+pub ruleset lent = (nodes_room, links_room, length-take-le, room_again, part_again)

@@ -13,9 +13,8 @@ use borrow.Author.Tests.{le-leb, lt-ltb, leb-true, ltb-true}
 use Rattle.rule.specs.Round.{Link, Cell}
 use Rattle.wire.specs.Big.{Bytes, big, bytes_of}
 use Rattle.wire.proofs.BigLaws.{Has, has_left, has_right, has_at, written_read, read_written, length_bytes_of, big_four, big_lt}
-use Rattle.answers.specs.declared.refusal.Verdict.TheVariants.{Fine}
 use Rattle.park.specs.ParkFile.{key_of, link_bytes, state_bytes, LinkOk, LinksOk, CellsOk}
-use Rattle.answers.specs.Verdicts.{unless, ◌then◌}
+use Rattle.answers.specs.Verdicts.{fine, unless, ◌then◌}
 use Rattle.park.specs.Reading.{link_at, links_from, key_at, bits_clear, links_read, cells_read}
 use Rattle.table.proofs.TestLaws.{both_true}
 use Rattle.answers.proofs.VerdictLaws.{then_fine, unless_fine}
@@ -79,7 +78,7 @@ link_here {s} {at} n before l rest few ok h =
     }
 
 pub links_written : {s : List ℕ} {at : ℕ} (n before : ℕ) (ls : List Link) → n ≤ 256 → LinksOk n before ls → Has s at (link_bytes ls)
-    → (links_from s n at before (length ls) ≡ Fine) × (links_read s at (length ls) ≡ ls)
+    → (links_from s n at before (length ls) ≡ fine) × (links_read s at (length ls) ≡ ls)
 unfolding links_from links_read link_at unless ◌then◌ link_bytes
 links_written {at = at} n before [] few ok h = (refl, refl)
 links_written {s} {at = at} n before (l ∷ ls) few ok h =
@@ -166,7 +165,7 @@ module _ (s : List ℕ) (b : Bytes s) where
   cells_ok at (suc k) =
       (record { dist = big_lt 4 s at b; parent = big_lt 2 s (at + 4) b; mark = b (at + 6) }, cells_ok (at + 7) k)
 
-  pub links_ok : (n at before left : ℕ) → links_from s n at before left ≡ Fine → LinksOk n before (links_read s at left)
+  pub links_ok : (n at before left : ℕ) → links_from s n at before left ≡ fine → LinksOk n before (links_read s at left)
   unfolding links_from link_at links_read
   links_ok n at before zero e = tt
   links_ok n at before (suc k) e =

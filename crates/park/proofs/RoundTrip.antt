@@ -1,4 +1,5 @@
 -- The round trip of a park file: write then read gives the same park, read then write gives the same bytes.
+use Rattle.std.specs.Prelude.{Ok, Err}
 use Prim.Native.Nat.{ℕ, ◌+◌, ◌*◌, ◌-◌, ◌%◌, ◌^◌, ◌≤◌, ◌<◌, min}
 use mathlib.Core.Path.{◌≡◌, refl, sym, ap, ap₂, ◌∙◌}
 use mathlib.Core.Bool.{true}
@@ -13,12 +14,10 @@ use lib.Pow.{pow_pos}
 use borrow.Author.Tests.{le-leb, leb-true}
 use Rattle.wire.specs.Big.{Bytes, bytes_of}
 use Rattle.wire.proofs.BigLaws.{Has, has_all, has_left, has_right, has_at, has_part, written_read, length_bytes_of, read_written}
-use Rattle.answers.specs.declared.refusal.Verdict.{Verdict}
-use Rattle.answers.specs.declared.refusal.Verdict.TheVariants.{Fine, Refused}
 use Rattle.measure.specs.Measure.{most_nodes, most_links}
 use Rattle.park.specs.Layout.{head_size, link_size, group_size, cell_size, links_at, first_link, group_at, state_at, first_cell, end_at, largest_file}
 use Rattle.park.specs.ParkFile.{ParkFile, field, link_bytes, state_bytes, encode, ParkFileOk}
-use Rattle.answers.specs.Verdicts.{unless, ◌then◌}
+use Rattle.answers.specs.Verdicts.{Verdict, fine, unless, ◌then◌}
 use Rattle.park.specs.Reading.{length_at, nodes_in, root_in, bounds_of, head_in, links_from, link_count, links_in, bits_clear, group_in, state_in, end_in, verdict_of, links_read, cells_read, file_in, park, read_park}
 use Rattle.answers.proofs.VerdictLaws.{then_fine, unless_fine}
 use Rattle.park.proofs.FieldLaws.{part, length_part, part_join, length_field, has_behind, Written, field_written, field_fine, FieldRead, field_read, field_part}
@@ -94,14 +93,14 @@ module _ (f : ParkFile) (ok : ParkFileOk f) where
   count_is : link_count s ≡ l
   count_is = rw said_is (mul-div_cancel_left l (lit< tt))
 
-  head_fine : head_in s ≡ Fine
+  head_fine : head_in s ≡ fine
   unfolding head_in bounds_of unless ◌then◌
   head_fine =
       let e = field_fine 1 4 4 one (mod-one _) (simp (length-append, length_bytes_of) (omega arith)) (simp (length-append, length_bytes_of) (omega arith)) in
       simp (e, nodes_is, root_is)
       (simp (le-leb _ _ ok.some, le-leb _ _ ok.few, le-leb _ _ ok.root_least, le-leb _ _ ok.root_most))
 
-  links_fine : links_in s ≡ Fine
+  links_fine : links_in s ≡ fine
   unfolding links_in ◌then◌
   links_fine =
       let len = length_link_bytes f.links in
@@ -109,7 +108,7 @@ module _ (f : ParkFile) (ok : ParkFileOk f) where
       let e = field_fine link_size 0 (link_size * most_links) two m (omega arith) (omega (arith, len, ok.link_count)) in
       simp (e, nodes_is, count_is) (links_written f.nodes 0 f.links ok.few ok.links two.inside).0
 
-  group_fine : group_in s ≡ Fine
+  group_fine : group_in s ≡ fine
   unfolding group_in unless ◌then◌
   group_fine =
       let e = field_fine 1 group_size group_size three (mod-one _) (omega (arith, ok.group_size)) (omega (arith, ok.group_size)) in
@@ -117,20 +116,20 @@ module _ (f : ParkFile) (ok : ParkFileOk f) where
       bits_written s (group_at l + head_size) f.nodes group_size (λ i h. rw (has_at three.inside i (omega (arith, ok.group_size))) (ok.bits i)) in
       simp (nodes_is, count_is) (simp (e, b))
 
-  state_fine : state_in s ≡ Fine
+  state_fine : state_in s ≡ fine
   unfolding state_in
   state_fine =
       let len = length_state_bytes f.state in
       let e = field_fine 1 (cell_size * f.nodes) (cell_size * f.nodes) four (mod-one _) (omega (arith, len, ok.state_size)) (omega (arith, len, ok.state_size)) in
       simp (nodes_is, count_is) e
 
-  end_fine : end_in s ≡ Fine
+  end_fine : end_in s ≡ fine
   unfolding end_in unless
   end_fine =
       let h : length s ≤ end_at f.nodes l = omega (arith, length_encode f ok) in
       simp (nodes_is, count_is) (simp (le-leb _ _ h))
 
-  verdict_fine : verdict_of s ≡ Fine
+  verdict_fine : verdict_of s ≡ fine
   unfolding verdict_of ◌then◌
   verdict_fine = simp (head_fine, links_fine, group_fine, state_fine, end_fine)
 
@@ -155,18 +154,18 @@ pub record FileRead (s : List ℕ) : Type 0 where
   pub root_least : 1 ≤ root_in s
   pub root_most : root_in s ≤ nodes_in s
   pub links : FieldRead s links_at 2 link_size 0 (link_size * most_links)
-  pub records : links_from s (nodes_in s) first_link 0 (link_count s) ≡ Fine
+  pub records : links_from s (nodes_in s) first_link 0 (link_count s) ≡ fine
   pub group : FieldRead s (group_at (link_count s)) 3 1 group_size group_size
   pub bits : bits_clear s (group_at (link_count s) + head_size) (nodes_in s) group_size ≡ true
   pub state : FieldRead s (state_at (link_count s)) 4 1 (cell_size * nodes_in s) (cell_size * nodes_in s)
   pub end : length s ≤ end_at (nodes_in s) (link_count s)
 
 -- a head that was not refused says at most 256 nodes
-pub head_few : (s : List ℕ) → head_in s ≡ Fine → nodes_in s ≤ most_nodes
+pub head_few : (s : List ℕ) → head_in s ≡ fine → nodes_in s ≤ most_nodes
 unfolding head_in bounds_of
 head_few s e = leb-true _ _ (unless_fine _ _ (then_fine _ _ (then_fine _ _ (then_fine _ _ e).1).1).0)
 
-pub file_read : (s : List ℕ) → verdict_of s ≡ Fine → FileRead s
+pub file_read : (s : List ℕ) → verdict_of s ≡ fine → FileRead s
 unfolding verdict_of head_in bounds_of links_in group_in state_in end_in
 file_read s e =
     let a = then_fine _ _ e in
@@ -268,13 +267,13 @@ module _ (s : List ℕ) (b : Bytes s) (r : FileRead s) where
       }
 
 -- a file that is read as a park was not refused, and the park is what its fields hold
-pub read_fine : (s : List ℕ) (f : ParkFile) → read_park s ≡ park f → (verdict_of s ≡ Fine) × (file_in s ≡ f)
+pub read_fine : (s : List ℕ) (f : ParkFile) → read_park s ≡ park f → (verdict_of s ≡ fine) × (file_in s ≡ f)
 unfolding read_park
 read_fine s f e = go (verdict_of s) refl
   where
-    go : (v : Verdict) → verdict_of s ≡ v → (verdict_of s ≡ Fine) × (file_in s ≡ f)
-    go Fine p = (p, cc)
-    go (Refused r) p = let z : ◌≡◌ {A = ℕ} 0 1 = cc in absurd (omega arith)
+    go : (v : Verdict) → verdict_of s ≡ v → (verdict_of s ≡ fine) × (file_in s ≡ f)
+    go (Ok _) p = (p, cc)
+    go (Err r) p = let z : ◌≡◌ {A = ℕ} 0 1 = cc in absurd (omega arith)
 
 -- read then write gives the same bytes, and what is read is a park that has a file
 pub read_then_encode : (s : List ℕ) (f : ParkFile) → Bytes s → read_park s ≡ park f → (encode f ≡ s) × ParkFileOk f
@@ -284,5 +283,5 @@ read_then_encode s f b e =
     (ap encode (sym p.1) ∙ read_encode s b r, rw p.1 at (read_ok s b r))
 
 -- the file of a park is not refused
-pub encode_fine : (f : ParkFile) → ParkFileOk f → verdict_of (encode f) ≡ Fine
+pub encode_fine : (f : ParkFile) → ParkFileOk f → verdict_of (encode f) ≡ fine
 encode_fine f ok = (read_fine (encode f) f (encode_read f ok)).0

@@ -1,6 +1,15 @@
 -- Where everything stands in a park file and how much room it takes, in bytes, by the numbers of nodes and of links: document 01's table.
 use Rattle.std.specs.Prelude.{ℕ, ◌+◌, ◌*◌}
 use Rattle.measure.specs.Measure.{most_nodes, most_links}
+use Rattle.park.specs.declared.layout.Field.TheVariants.{Nodes, Links, Group, State}
+use Rattle.park.specs.declared.layout.Field.{Field}
+
+-- the tag byte of each field
+abbrev pub tag_of : Field → ℕ
+tag_of Nodes = 1
+tag_of Links = 2
+tag_of Group = 3
+tag_of State = 4
 
 -- the head of a field: "one tag byte, a two-byte length"
 abbrev pub head_size : ℕ

@@ -1,15 +1,12 @@
 -- Reading a park file: document 01's table of fields and its refusals 1 to 8, with their exact conditions, places and order:
 -- "the file from its start, field by field: head complete, tag, length, body complete, contents; then 8". Places are in bytes.
-use Rattle.std.specs.Prelude.{ℕ, zero, suc, ◌+◌, ◌*◌, ◌-◌, ◌/◌, ◌%◌, ◌^◌, min, leb, ltb, eqb, length, get_or, take, drop, Bool, true, ◌&&◌, List, [], ◌∷◌, ◌≡◌}
+use Rattle.std.specs.Prelude.{ℕ, zero, suc, ◌+◌, ◌*◌, ◌-◌, ◌/◌, ◌%◌, ◌^◌, min, leb, ltb, eqb, length, get_or, take, drop, Bool, true, ◌&&◌, List, [], ◌∷◌, ◌≡◌, Result, Ok, Err}
 use Rattle.measure.specs.Measure.{most_nodes, most_links}
 use Rattle.park.specs.Layout.{head_size, link_size, group_size, cell_size, nodes_at, root_at, links_at, first_link, group_at, state_at, first_cell, end_at}
 use Rattle.park.specs.ParkFile.{ParkFile}
-use Rattle.answers.specs.Verdicts.{unless, ◌then◌, by_verdict}
-use Rattle.answers.specs.declared.CheckAnswer as checked
+use Rattle.answers.specs.Verdicts.{Verdict, fine, unless, ◌then◌, by_verdict}
 use Rattle.answers.specs.declared.Head.{Head}
-use Rattle.answers.specs.declared.ReadAnswer as found
-use Rattle.answers.specs.declared.refusal.Verdict.TheVariants.{Fine}
-use Rattle.answers.specs.declared.refusal.Verdict.{Verdict}
+use Rattle.answers.specs.declared.Sizes.{Sizes}
 use Rattle.answers.specs.declared.refusal.Refusal.TheVariants.{Short, Tag, Length, Bounds, Ends, Order, Bit, After}
 use Rattle.answers.specs.declared.refusal.Refusal.{Refusal}
 use Rattle.rule.specs.Round.{Link, Cell}
@@ -83,7 +80,7 @@ link_at s n at before =
 
 -- the links that are left, from a place on, behind the key of the one before
 unfoldable pub links_from : List ℕ → ℕ → ℕ → ℕ → ℕ → Verdict
-links_from s n at before zero = Fine
+links_from s n at before zero = fine
 links_from s n at before (suc left) = link_at s n at before then links_from s n (at + link_size) (key_at s at) left
 
 -- the links that field 2 has room for
@@ -151,15 +148,15 @@ head_of s = record { nodes = nodes_in s; root = root_in s; links = link_count s 
 
 -- the file s is not refused, and h has its three numbers
 pub record ReadAs (s : List ℕ) (h : Head) : Type 0 where
-  pub fine : verdict_of s ≡ Fine
+  pub fine : verdict_of s ≡ fine
   pub nodes : h.nodes ≡ nodes_in s
   pub root : h.root ≡ root_in s
   pub links : h.links ≡ link_count s
 
 -- what reading the fields finds: those numbers, or a refusal
-unfoldable pub read_answer : List ℕ → found.ReadAnswer
-read_answer s = by_verdict (verdict_of s) (found.TheVariants.Park (head_of s)) found.TheVariants.Refused
+unfoldable pub read_answer : List ℕ → Result Head Refusal
+read_answer s = by_verdict (verdict_of s) (Ok (head_of s)) Err
 
 -- "Check a file: n and the number of links, or a refusal."
-unfoldable pub check_of : List ℕ → checked.CheckAnswer
-check_of s = by_verdict (verdict_of s) (checked.TheVariants.Park (nodes_in s) (link_count s)) checked.TheVariants.Refused
+unfoldable pub check_of : List ℕ → Result Sizes Refusal
+check_of s = by_verdict (verdict_of s) (Ok (record { nodes = nodes_in s; links = link_count s })) Err

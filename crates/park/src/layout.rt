@@ -1,10 +1,33 @@
 // Where everything stands in a park file, in bytes; no other code names a place of the file. Every call is total: a number
 // outside the file is read as 0.
 ghost use Rattle.std.specs.Prelude.{◌≡◌};
-ghost use Rattle.park.specs.Layout.{group_at, state_at, first_cell, end_at};
+ghost use Rattle.park.specs.Layout.{tag_of, group_at, state_at, first_cell, end_at};
 ghost use Rattle.park.specs.Reading.{nodes_in, root_in, link_count};
 
 use measure::{LINKS, NODES};
+
+// The fields of a park file, in their order.
+#[derive(Clone, Copy, Debug, PartialEq, Eq)]
+pub enum Field {
+    Nodes,
+    Links,
+    Group,
+    State,
+}
+
+impl Field {
+    // The field's first byte.
+    pub fn tag(self) -> u8
+        ensures { result ≡ tag_of self }
+    {
+        match self {
+            Field::Nodes => 1,
+            Field::Links => 2,
+            Field::Group => 3,
+            Field::State => 4,
+        }
+    }
+}
 
 // A field's tag and length, in bytes.
 pub const HEAD: usize = 3;
@@ -51,14 +74,14 @@ pub fn root_in(file: &[u8]) -> u16
 pub fn link_count(file: &[u8]) -> u16
     ensures { result ≡ link_count file.now }
 {
-    (wire::number_at(file, LINKS_AT + 1) / LINK) as u16
+    wire::big16(file, LINKS_AT + 1) / LINK as u16
 }
 
 // The place of field 3, the group, behind so many links.
 pub fn group_at(links: u16) -> usize
     ensures { result ≡ group_at links }
 {
-    FIRST_LINK + LINK * wire::wide(links)
+    FIRST_LINK + LINK * usize::from(links)
 }
 
 // The place of field 4, the state, behind so many links.
@@ -79,5 +102,5 @@ pub fn first_cell(links: u16) -> usize
 pub fn end_at(nodes: u16, links: u16) -> usize
     ensures { result ≡ end_at nodes links }
 {
-    first_cell(links) + CELL * wire::wide(nodes)
+    first_cell(links) + CELL * usize::from(nodes)
 }

@@ -3,7 +3,6 @@ pub mod SearchLaws
 pub mod LowerLaws
 pub mod SettleLaws
 pub mod TurnLaws
-pub mod LoopLaws
 pub mod WalkLaws
 pub mod MarkLaws
 pub mod FoundLaws

@@ -4,7 +4,7 @@ use native.Mathlib.Nat.{le_refl, le_trans, le_of_eq, le_of_lt, zero-add, add-zer
 use native.Mathlib.Omega.{arith}
 use mathlib.Core.Path.{◌≡◌, refl, sym, ap, ◌∙◌, subst}
 use mathlib.Core.Logic.{◌⊎◌, inl, inr, ⊎_elim}
-use mathlib.Core.Bool.{Bool, true, false, cond, ◌&&◌, ◌||◌}
+use mathlib.Core.Bool.{Bool, true, false, cond, not, ◌&&◌, ◌||◌, false≢true}
 use borrow.Author.Tests.{eqb-true, eqb-false, ltb-true, ltb-false}
 use lib.Dec.{eqb, ltb}
 use lib.ListN.{length}
@@ -12,17 +12,18 @@ use Rattle.measure.specs.Measure.{ceiling}
 use Rattle.rule.proofs.OfferLaws.{same?, below?}
 use Rattle.rule.proofs.Sound.{Within}
 use Rattle.table.specs.Nodes.{node_at}
-use Rattle.paths.specs.Nearest.{Work, closer, nearest_from, nearest}
+use Rattle.std.proofs.Common.{Some}
+use Rattle.paths.specs.Nearest.{Work, closer, nearest_from, nearest, some_node}
 
 -- a node's distance, and whether it is settled
 abbrev pub dist_in : Work → ℕ → ℕ
 dist_in w i = node_at ceiling w.dists i
 
 abbrev pub Settled : Work → ℕ → Type 0
-Settled w i = node_at 0 w.done i ≡ 0 → ⊥
+Settled w i = node_at false w.done i ≡ false → ⊥
 
 abbrev pub Waiting : Work → ℕ → Type 0
-Waiting w i = node_at 0 w.done i ≡ 0
+Waiting w i = node_at false w.done i ≡ false
 
 -- b is the nearest node that is not settled of the first k, or 0 where they are all settled
 pub record NearestOf (w : Work) (k b : ℕ) : Type 0 where
@@ -62,14 +63,14 @@ module _ (w : Work) where
 
   step : (k b : ℕ) → NearestOf w k b → NearestOf w (suc k) (cond (closer w b (suc k)) (suc k) b)
   unfolding closer
-  step k b h = go (eqb (node_at 0 w.done (suc k)) 0) refl (eqb b 0) refl (ltb (dist_in w (suc k)) (dist_in w b)) refl
+  step k b h = go (node_at false w.done (suc k)) refl (eqb b 0) refl (ltb (dist_in w (suc k)) (dist_in w b)) refl
     where
-      go : (s : Bool) → eqb (node_at 0 w.done (suc k)) 0 ≡ s → (t : Bool) → eqb b 0 ≡ t → (u : Bool) → ltb (dist_in w (suc k)) (dist_in w b) ≡ u
-          → NearestOf w (suc k) (cond (s && (t || u)) (suc k) b)
-      go false e t f u g = keep k b h (inl (eqb-false (node_at 0 w.done (suc k)) 0 e))
-      go true e true f u g = replace k b h (eqb-true (node_at 0 w.done (suc k)) 0 e) (inl (eqb-true b 0 f))
-      go true e false f true g = replace k b h (eqb-true (node_at 0 w.done (suc k)) 0 e) (inr (ltb-true (dist_in w (suc k)) (dist_in w b) g))
-      go true e false f false g = keep k b h (inr (eqb-false b 0 f, ltb-false (dist_in w (suc k)) (dist_in w b) g))
+      go : (s : Bool) → node_at false w.done (suc k) ≡ s → (t : Bool) → eqb b 0 ≡ t → (u : Bool) → ltb (dist_in w (suc k)) (dist_in w b) ≡ u
+          → NearestOf w (suc k) (cond (not s && (t || u)) (suc k) b)
+      go true e t f u g = keep k b h (inl (λ z. false≢true (sym z ∙ e)))
+      go false e true f u g = replace k b h e (inl (eqb-true b 0 f))
+      go false e false f true g = replace k b h e (inr (ltb-true (dist_in w (suc k)) (dist_in w b) g))
+      go false e false f false g = keep k b h (inr (eqb-false b 0 f, ltb-false (dist_in w (suc k)) (dist_in w b) g))
 
   search_on : (left k b : ℕ) → NearestOf w k b → NearestOf w (k + left) (nearest_from w left (suc k) b)
   unfolding nearest_from
@@ -84,3 +85,11 @@ module _ (w : Work) where
       subst (λ (x : ℕ). NearestOf w x (nearest_from w (length w.dists) 1 0)) (zero-add (length w.dists))
       (search_on (length w.dists) 0 0
       (record { none = λ e j l. absurd (omega arith); node = λ n. absurd (n refl); waiting = λ n. absurd (n refl); least = λ n. absurd (n refl) }))
+
+  -- so the node that is found, if there is one, is a node
+  pub nearest_within : (u : ℕ) → Some u ≡ some_node (nearest w) → Within (length w.dists) u
+  nearest_within u e = go (nearest w) e nearest_is
+    where
+      go : (k : ℕ) → Some u ≡ some_node k → NearestOf w (length w.dists) k → Within (length w.dists) u
+      go zero f near = cc
+      go (suc k) f near = let same : u ≡ suc k = cc in subst (Within (length w.dists)) (sym same) (near.node (λ z. omega arith))

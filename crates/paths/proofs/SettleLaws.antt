@@ -5,11 +5,11 @@ use native.Mathlib.Nat.{le_refl, le_trans, le_of_eq, le_antisymm, lt_of_le_of_lt
 use native.Mathlib.Omega.{arith}
 use mathlib.Core.Path.{◌≡◌, refl, sym, ap, ap₂, ◌∙◌, subst}
 use mathlib.Core.Logic.{◌⊎◌, inl, inr, ⊎_elim}
-use mathlib.Core.Bool.{false}
+use mathlib.Core.Bool.{Bool, true, false, not, false≢true}
 use mathlib.Core.List.{List, Memᴰ}
-use borrow.Author.Tests.{eq-eqb, ne_eqb}
-use lib.Dec.{T, eqb, eqb→eq}
-use lib.ListN.{length, replicate, length-replicate}
+use lib.Dec.{T}
+use lib.ListN.{length, set, replicate, length-set, length-replicate}
+use lib.Seq.{get_or-set_same, get_or-set_other}
 use Rattle.measure.specs.Measure.{ceiling, plus}
 use Rattle.rule.specs.Round.{Link, Park, through, net_of}
 use Rattle.rule.specs.Settles.{ParkOk}
@@ -19,12 +19,29 @@ use Rattle.rule.proofs.CountLaws.{count, count_le, count_more}
 use Rattle.rule.proofs.DistanceLaws.{Certified}
 use Rattle.rule.proofs.NetLaws.{sound, arc_link, link_arc}
 use Rattle.table.specs.Nodes.{node_at}
-use Rattle.table.specs.Flag.{with_mark}
-use Rattle.table.proofs.FlagLaws.{node_same, length_mark, mark_new, mark_old}
+use Rattle.table.proofs.FlagLaws.{node_same}
 use Rattle.paths.specs.Nearest.{Work, nearest}
 use Rattle.paths.specs.Offers.{offered_all, settle_node, settle_nearest, settle_nodes, unsettled, dists_from}
 use Rattle.paths.proofs.LowerLaws.{Joins, Offers, offers, lowered_is}
 use Rattle.paths.proofs.NearestLaws.{dist_in, Settled, Waiting, NearestOf, nearest_is}
+
+-- a flag that is set, the others, and flags of which none is set
+flag_new : (F : List Bool) (k : ℕ) → k < length F → node_at false (set F k true) (suc k) ≡ true
+flag_new F k h = get_or-set_same F k true false h
+
+flag_old : (F : List Bool) (k j : ℕ) → (j ≡ suc k → ⊥) → node_at false (set F k true) j ≡ node_at false F j
+flag_old F k zero m = refl
+flag_old F k (suc j) m = get_or-set_other F k j true false (λ e. m (ap suc e))
+
+none_set : (n i : ℕ) → node_at false (replicate n false) i ≡ false
+none_set n zero = refl
+none_set zero (suc i) = refl
+none_set (suc n) (suc zero) = refl
+none_set (suc n) (suc (suc i)) = none_set n (suc i)
+
+unset : (b : Bool) → T (not b) → b ≡ false
+unset true t = absurd t
+unset false t = refl
 
 -- an offer is never below the distance that it starts from
 plus_from : (d c : ℕ) → d ≤ ceiling → d ≤ plus d c
@@ -60,7 +77,7 @@ module _ (n root : ℕ) (ls : List Link) where
     d = dist_in w (suc k)
 
     next : Work
-    next = record { dists = offered_all (suc k) (dist_in w (suc k)) w.dists ls; done = with_mark w.done (suc k) }
+    next = record { dists = offered_all (suc k) (dist_in w (suc k)) w.dists ls; done = set w.done k true }
 
     made : Offers (suc k) (dist_in w (suc k)) ls w.dists (offered_all (suc k) (dist_in w (suc k)) w.dists ls)
     made = offers (suc k) (dist_in w (suc k)) ls w.dists
@@ -77,20 +94,20 @@ module _ (n root : ℕ) (ls : List Link) where
     -- who is settled after the turn was settled before, or is u
     before : (j : ℕ) → Settled next j → Settled w j ⊎ (j ≡ suc k)
     unfolding next
-    before j s = ⊎_elim (λ e. inr e) (λ m. inl (λ z. s (mark_old w.done (suc k) j m ∙ z))) (same? j (suc k))
+    before j s = ⊎_elim (λ e. inr e) (λ m. inl (λ z. s (flag_old w.done k j m ∙ z))) (same? j (suc k))
 
     still : (j : ℕ) → Settled w j → Settled next j
     unfolding next
-    still j s = ⊎_elim (λ (e : j ≡ suc k). absurd (s (subst (Waiting w) (sym e) was_waiting))) (λ m z. s (sym (mark_old w.done (suc k) j m) ∙ z)) (same? j (suc k))
+    still j s = ⊎_elim (λ (e : j ≡ suc k). absurd (s (subst (Waiting w) (sym e) was_waiting))) (λ m z. s (sym (flag_old w.done k j m) ∙ z)) (same? j (suc k))
 
     now_settled : Settled next (suc k)
     unfolding next
-    now_settled z = let e : ◌≡◌ {A = ℕ} 1 0 = sym (mark_new w.done (suc k) (here.0, omega (arith, g.marks, here.1))) ∙ z in omega arith
+    now_settled z = false≢true (sym z ∙ flag_new w.done k (omega (arith, g.marks, here.1)))
 
     waited : (j : ℕ) → Waiting next j → Waiting w j
     unfolding next
     waited j o =
-        ⊎_elim (λ (e : j ≡ suc k). absurd (now_settled (subst (Waiting next) e o))) (λ m. sym (mark_old w.done (suc k) j m) ∙ o) (same? j (suc k))
+        ⊎_elim (λ (e : j ≡ suc k). absurd (now_settled (subst (Waiting next) e o))) (λ m. sym (flag_old w.done k j m) ∙ o) (same? j (suc k))
 
     -- no distance up to u's changes, and none falls below it
     floor : (j : ℕ) → min (dist_in w j) (dist_in w (suc k)) ≤ dist_in next j
@@ -149,7 +166,7 @@ module _ (n root : ℕ) (ls : List Link) where
     going_next =
         record {
           size = made.size ∙ g.size;
-          marks = length_mark w.done (suc k) ∙ g.marks;
+          marks = length-set w.done k true ∙ g.marks;
           start = le_antisymm (le_trans (made.lower root) (le_of_eq g.start)) (omega arith);
           capped = λ i. le_trans (made.lower i) (g.capped i);
           order = λ s j v vj o p. le_trans (le_of_eq (same_low s (settled_low s v o)))
@@ -163,7 +180,7 @@ module _ (n root : ℕ) (ls : List Link) where
 
   -- how many nodes are not settled
   waiting : Work → ℕ
-  waiting w = count (λ j. eqb (node_at 0 w.done j) 0) 1 n
+  waiting w = count (λ j. not (node_at false w.done j)) 1 n
 
   AllSettled : Work → Type 0
   AllSettled w = (j : ℕ) → Within n j → Settled w j
@@ -171,17 +188,17 @@ module _ (n root : ℕ) (ls : List Link) where
   none_waits : (w : Work) → waiting w ≤ 0 → AllSettled w
   unfolding waiting AllSettled
   none_waits w h j v o =
-      let c : 0 < count (λ i. eqb (node_at 0 w.done i) 0) 1 n =
-      lt_of_le_of_lt zero-le (count_more (λ _. false) (λ i. eqb (node_at 0 w.done i) 0) (λ i t. absurd t) 1 n j v.0 (omega (arith, v.1)) refl (eq-eqb (node_at 0 w.done j) 0 o)) in
+      let c : 0 < count (λ i. not (node_at false w.done i)) 1 n =
+      lt_of_le_of_lt zero-le (count_more (λ _. false) (λ i. not (node_at false w.done i)) (λ i t. absurd t) 1 n j v.0 (omega (arith, v.1)) refl (ap not o)) in
       omega arith
 
   fewer : (w : Work) (g : Going w) (k : ℕ) (near : NearestOf w (length w.dists) (suc k)) → waiting (next w g k near) < waiting w
-  unfolding waiting
+  unfolding waiting next
   fewer w g k near =
-      count_more (λ j. eqb (node_at 0 (next w g k near).done j) 0) (λ j. eqb (node_at 0 w.done j) 0)
-      (λ j t. subst T (sym (eq-eqb (node_at 0 w.done j) 0 (waited w g k near j (eqb→eq (node_at 0 (next w g k near).done j) 0 t)))) tt)
+      count_more (λ j. not (node_at false (next w g k near).done j)) (λ j. not (node_at false w.done j))
+      (λ j t. subst T (sym (ap not (waited w g k near j (unset (node_at false (next w g k near).done j) t)))) tt)
       1 n (suc k) (here w g k near).0 (omega (arith, (here w g k near).1))
-      (ne_eqb (node_at 0 (next w g k near).done (suc k)) 0 (now_settled w g k near)) (eq-eqb (node_at 0 w.done (suc k)) 0 (was_waiting w g k near))
+      (ap not (flag_new w.done k (omega (arith, g.marks, (here w g k near).1)))) (ap not (was_waiting w g k near))
 
   -- all turns
   turns : (left : ℕ) (w : Work) → Going w → (AllSettled w ⊎ (waiting w ≤ left)) → Going (settle_nodes ls left w) × AllSettled (settle_nodes ls left w)
@@ -205,18 +222,18 @@ module _ (n root : ℕ) (ls : List Link) where
       let long : length (replicate n ceiling) ≡ n = length-replicate n ceiling in
       record {
         size = r.size ∙ long;
-        marks = length-replicate n 0;
+        marks = length-replicate n false;
         start = le_antisymm (r.taken (subst (λ (x : ℕ). Within x root) (sym long) v)) zero-le;
         capped = λ i. le_trans (r.lower i) (le_of_eq (node_same ceiling n i));
-        order = λ s u a b o p. absurd (o (node_same 0 n s));
-        told = λ s i a o b l m j. absurd (o (node_same 0 n s));
+        order = λ s u a b o p. absurd (o (none_set n s));
+        told = λ s i a o b l m j. absurd (o (none_set n s));
         given = λ i n' h. ⊎_elim (λ e. absurd (omega (arith, e, node_same ceiling n i))) (λ e. absurd (n' e.0)) (r.source i);
       }
 
   settled_all : Within n root → Going (settle_nodes ls n (unsettled n root)) × AllSettled (settle_nodes ls n (unsettled n root))
   unfolding waiting
   settled_all v =
-      turns n (unsettled n root) (going_start v) (inr (count_le (λ j. eqb (node_at 0 (unsettled n root).done j) 0) 1 n))
+      turns n (unsettled n root) (going_start v) (inr (count_le (λ j. not (node_at false (unsettled n root).done j)) 1 n))
 
 -- the distances that are found have the certificate
 pub found_certified : {p : Park} → ParkOk p → Certified (net_of p) (node_at ceiling (dists_from p.nodes p.root p.links))

@@ -33,15 +33,14 @@ module _ (root : ℕ) (ls : List Link) (D : List ℕ) (n : ℕ) where
   by_at k h = get_d_numbered (λ (i : ℕ). parent_by root ls (node_at ceiling D) i) 0 1 n k h ∙ ap (parent_by root ls (node_at ceiling D)) (add_comm 1 k)
 
 -- the parents written up to place k
-module _ (root : ℕ) (ls : List Link) (D old r : List ℕ) (k : ℕ) (so_far : r ≡ over (parents_by root ls D (length old)) k old) (long : length r ≡ length old) where
-  pub parents_next : k < length r → (x : ℕ) → x ≡ parent_by root ls (node_at ceiling D) (k + 1)
+module _ (root : ℕ) (ls : List Link) (D old r : List ℕ) (k : ℕ) (so_far : r ≡ over (parents_by root ls D (length old)) k old) where
+  pub parents_next : k < length old → (x : ℕ) → x ≡ parent_by root ls (node_at ceiling D) (k + 1)
       → set r k x ≡ over (parents_by root ls D (length old)) (k + 1) old
-  parents_next l x e =
-      let h : k < length old = omega arith in
+  parents_next h x e =
       over_next (parents_by root ls D (length old)) old k h (length_by root ls D (length old)) r so_far x
       (e ∙ sym (by_at root ls D (length old) k h))
 
-  pub parents_end : length r ≤ k → r ≡ parents_by root ls D (length old)
+  pub parents_end : length old ≤ k → r ≡ parents_by root ls D (length old)
   parents_end h = so_far ∙ over_all (parents_by root ls D (length old)) old k (omega (arith, length_by root ls D (length old))) (length_by root ls D (length old))
 
 -- slices of so many nodes each: what is found is the park's

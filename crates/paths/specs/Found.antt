@@ -6,6 +6,7 @@ use Rattle.rule.specs.Round.{Link, Park, numbered}
 use Rattle.group.specs.Group.{member_in}
 use Rattle.table.specs.Slices.{links_of}
 use Rattle.table.specs.Nodes.{node_at}
+use Rattle.table.specs.declared.Net.{Net}
 use Rattle.round.specs.Parent.{parent_by}
 use Rattle.paths.specs.Offers.{dists_from}
 use Rattle.paths.specs.Walk.{walked_from, marks_from}
@@ -32,3 +33,7 @@ pub record Found (root : ℕ) (ls hs cs ws ds ps ms ds' ps' ms' : List ℕ) : Ty
   pub dists : ds' ≡ sets ds 0 (dists_from (min most_nodes (length ds)) root (links_of ls hs cs))
   pub parents : ps' ≡ parents_by root (links_of ls hs cs) ds' (length ps)
   pub marks : ms' ≡ walked_from (member_in 64 ws) ps' (length ps') 1 (replicate (length ms) 0)
+
+-- the same for the root, the links and the members of a net
+abbrev pub FoundOver : Net → List ℕ → List ℕ → List ℕ → List ℕ → List ℕ → List ℕ → Type 0
+FoundOver n = Found n.root n.links.lows.now n.links.highs.now n.links.costs.now n.words.now

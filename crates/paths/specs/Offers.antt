@@ -1,12 +1,11 @@
 -- How exact distances are found without rounds: the nearest node that is not settled is settled, and its distance is offered
 -- over each of its links; once for each node. That these are the exact distances is a theorem.
 -- Distances are in cost units, node 1's first.
-use Rattle.std.specs.Prelude.{ℕ, zero, suc, min, List, [], ◌∷◌, get_or, set, replicate}
+use Rattle.std.specs.Prelude.{ℕ, zero, suc, true, false, min, List, [], ◌∷◌, get_or, set, replicate}
 use Rattle.measure.specs.Measure.{ceiling, plus}
 use Rattle.rule.specs.Round.{Link}
 use Rattle.table.specs.Nodes.{node_at}
 use Rattle.links.specs.Neighbours.{other_end}
-use Rattle.table.specs.Flag.{with_mark}
 use Rattle.paths.specs.Nearest.{Work, nearest}
 
 -- the distances with node i's lowered to an offer that is less; a number that is no node has none
@@ -27,7 +26,7 @@ offered_all u d D (l ∷ ls) = offered_all u d (offered u d D l) ls
 unfoldable pub settle_node : List Link → Work → ℕ → Work
 settle_node ls w zero = w
 settle_node ls w (suc k) =
-    record { dists = offered_all (suc k) (node_at ceiling w.dists (suc k)) w.dists ls; done = with_mark w.done (suc k) }
+    record { dists = offered_all (suc k) (node_at ceiling w.dists (suc k)) w.dists ls; done = set w.done k true }
 
 -- one turn: the nearest node that is not settled is settled
 unfoldable pub settle_nearest : List Link → Work → Work
@@ -40,7 +39,7 @@ settle_nodes ls (suc left) w = settle_nodes ls left (settle_nearest ls w)
 
 -- to begin with, only the root has a distance, and no node is settled
 unfoldable pub unsettled : ℕ → ℕ → Work
-unsettled n root = record { dists = lowered (replicate n ceiling) root 0; done = replicate n 0 }
+unsettled n root = record { dists = lowered (replicate n ceiling) root 0; done = replicate n false }
 
 -- the distances of n nodes
 unfoldable pub dists_from : ℕ → ℕ → List Link → List ℕ

@@ -6,52 +6,30 @@ mod marks;
 mod nearest;
 pub mod offers;
 
-ghost use Rattle.std.specs.Prelude.{◌≡◌, List, length};
-ghost use Rattle.rule.specs.Round.{Link};
-ghost use Rattle.table.specs.Slices.{links_of};
-ghost use Rattle.paths.specs.Found.{parents_by, Found};
+ghost use Rattle.std.specs.Prelude.{◌≡◌, length};
+ghost use Rattle.table.specs.Lent.{links_in};
+ghost use Rattle.paths.specs.Found.{parents_by, FoundOver};
 
 use crate::marks::find_marks;
 use crate::offers::exact_dists;
 use round::parent::parent_by;
+use table::{Links, Net};
 
 // Finds the parent of every node, by the distances in cost units.
-fn find_parents(
-    root: u16,
-    lows: &[u16],
-    highs: &[u16],
-    costs: &[u16],
-    dists: &[u32],
-    parents: &mut [u16],
-)
-    ensures { let links : List Link = links_of lows.now highs.now costs.now in
-        parents.new ≡ parents_by root links dists.now (length parents.old) }
+fn find_parents(root: u16, links: &Links<'_>, dists: &[u32], parents: &mut [u16])
+    ensures { parents.new ≡ parents_by root (links_in links.now) dists.now (length parents.old) }
 {
-    let mut at = 0;
-    while at < parents.len() {
-        parents[at] = parent_by(at + 1, root, lows, highs, costs, dists);
-        at += 1;
+    for (at, parent) in parents.iter_mut().enumerate() {
+        *parent = parent_by(at + 1, root, links, dists);
     }
 }
 
 // Writes the table that is found without rounds for the park that the slices hold: distances in cost units, parents, marks. For
-// a park of document 01, and slices as long as it has nodes, it is the exact table. `root`, the ends of links and parents are
-// node numbers, costs are in cost units, and `words` are the group's 64-bit words.
-pub fn exact_table(
-    root: u16,
-    lows: &[u16],
-    highs: &[u16],
-    costs: &[u16],
-    words: &[u64],
-    dists: &mut [u32],
-    parents: &mut [u16],
-    marks: &mut [u8],
-)
-    ensures { Found root lows.now highs.now costs.now words.now
-        dists.old parents.old marks.old
-        dists.new parents.new marks.new }
+// a park of document 01, and slices as long as it has nodes, it is the exact table. Parents are node numbers.
+pub fn exact_table(net: &Net<'_>, dists: &mut [u32], parents: &mut [u16], marks: &mut [u8])
+    ensures { FoundOver net.now dists.old parents.old marks.old dists.new parents.new marks.new }
 {
-    exact_dists(root, lows, highs, costs, dists);
-    find_parents(root, lows, highs, costs, dists, parents);
-    find_marks(words, parents, marks);
+    exact_dists(net.root, &net.links, dists);
+    find_parents(net.root, &net.links, dists, parents);
+    find_marks(net.words, parents, marks);
 }

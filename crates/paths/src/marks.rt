@@ -1,6 +1,6 @@
 // Exact marks: from each member the way by the parents is walked, and every node on it is marked. Marks are bytes, node 1's
 // first; 0 is clear.
-ghost use Rattle.std.specs.Prelude.{◌≡◌, cond, List, ℕ, length, replicate};
+ghost use Rattle.std.specs.Prelude.{◌≡◌, List, ℕ, length, replicate};
 ghost use Rattle.group.specs.Group.{member_in};
 ghost use Rattle.paths.specs.Walk.{walked, walked_from};
 
@@ -8,41 +8,17 @@ use group::is_member;
 use table::flags::set_mark;
 use table::parent_at;
 
-// Clears every mark.
-fn clear(marks: &mut [u8])
-    ensures { marks.new ≡ replicate (length marks.old) 0 }
-{
-    let mut at = 0;
-    while at < marks.len() {
-        marks[at] = 0;
-        at += 1;
-    }
-}
-
 // Marks `node` and the nodes that its way leads to, in fewer hops than there are marks; 0 ends the way.
 fn walk(node: usize, parents: &[u16], marks: &mut [u8])
     ensures { marks.new ≡ walked parents.now (length marks.old) marks.old node }
 {
     let mut here = node;
-    let mut left = marks.len();
-    while 0 < left {
+    for _hop in 0..marks.len() {
         if here == 0 {
             return;
         }
         set_mark(marks, here);
-        let next = parent_at(parents, here);
-        here = next as usize;
-        left -= 1;
-    }
-}
-
-// Walks from `node` where it is a member.
-fn walk_member(words: &[u64], node: usize, parents: &[u16], marks: &mut [u8])
-    ensures { let old : List ℕ = marks.old in
-        marks.new ≡ cond (member_in 64 words.now node) (walked parents.now (length old) old node) old }
-{
-    if is_member(words, node) {
-        walk(node, parents, marks);
+        here = usize::from(parent_at(parents, here));
     }
 }
 
@@ -51,10 +27,10 @@ fn walk_members(words: &[u64], parents: &[u16], marks: &mut [u8])
     ensures { let ps : List ℕ = parents.now in
         marks.new ≡ walked_from (member_in 64 words.now) ps (length ps) 1 marks.old }
 {
-    let mut at = 0;
-    while at < parents.len() {
-        walk_member(words, at + 1, parents, marks);
-        at += 1;
+    for node in 1..=parents.len() {
+        if is_member(words, node) {
+            walk(node, parents, marks);
+        }
     }
 }
 
@@ -66,6 +42,6 @@ pub(crate) fn find_marks(words: &[u64], parents: &[u16], marks: &mut [u8])
         let clear : List ℕ = replicate (length marks.old) 0 in
         marks.new ≡ walked_from (member_in 64 words.now) ps (length ps) 1 clear }
 {
-    clear(marks);
+    marks.fill(0);
     walk_members(words, parents, marks);
 }

@@ -15,7 +15,7 @@ use Rattle.group.specs.Group.{bit_set, member_in}
 use Rattle.table.specs.Slices.{links_of, lows_of, highs_of, costs_of, park_of}
 use Rattle.table.proofs.PartLaws.{sets_all, sets_take}
 use Rattle.answers.specs.declared.Head.{Head}
-use Rattle.answers.specs.declared.refusal.Verdict.TheVariants.{Fine}
+use Rattle.answers.specs.Verdicts.{fine}
 use Rattle.park.specs.Layout.{head_size, group_size, first_link, group_at, first_cell}
 use Rattle.park.specs.ParkFile.{park_in}
 use Rattle.park.specs.Reading.{verdict_of, links_read, cells_read, file_in, ReadAs, nodes_in, root_in, link_count}
@@ -116,7 +116,7 @@ module _ (s : List ℕ) (bytes : Bytes s) (from : ℕ) (room : from + 32 ≤ len
   member_words (suc k) = ap (λ (x : ℕ). eqb x 1) (member_bit k (dec_lt k 256))
 
 -- the slices of a file that is not refused are the slices of its park
-pub park_here : (s : List ℕ) → Bytes s → verdict_of s ≡ Fine → let ls = (file_in s).links in
+pub park_here : (s : List ℕ) → Bytes s → verdict_of s ≡ fine → let ls = (file_in s).links in
     park_of (nodes_in s) (root_in s) (lows_of ls) (highs_of ls) (costs_of ls) (column (little 8 s) (group_at (link_count s) + head_size) 8 4) ≡ park_in (file_in s)
 unfolding park_of park_in file_in
 park_here s bytes fine =

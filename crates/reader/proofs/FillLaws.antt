@@ -1,45 +1,72 @@
--- Filling a slice from its front, one number a turn: what stands so far and what is still to come are the whole.
-use Prim.Native.Nat.{ℕ, suc, ◌+◌, ◌-◌, ◌≤◌, ◌<◌}
-use mathlib.Core.Path.{◌≡◌, refl, ap, ◌∙◌}
-use mathlib.Core.List.{List, [], ◌∷◌}
+-- Filling slices from their front, one record a turn: what stands so far are the numbers of the records so far.
+use Prim.Native.Nat.{ℕ, zero, suc, ◌+◌, ◌*◌, ◌<◌}
+use mathlib.Core.Path.{◌≡◌, refl, ap, ap₂, ◌∙◌}
+use mathlib.Core.List.{List, [], ◌∷◌, ◌++◌, map, map-append}
 use native.Mathlib.Numerals.{add-one}
 use native.Mathlib.Omega.{arith}
-use lib.ListN.{length, set, length-set}
+use lib.ListN.{length, get_or, set, length-map}
 use lib.Seq.{sets}
+use Rattle.rule.specs.Round.{Link, Cell}
+use Rattle.wire.proofs.StoreLaws.{sets_append}
 use Rattle.park.specs.Layout.{link_size, cell_size}
 use Rattle.park.specs.Reading.{low_at, high_at, cost_at, dist_at, parent_at, mark_at, links_read, cells_read}
+use Rattle.reader.specs.Words.{column}
+use Rattle.park.proofs.RecordLaws.{length_links, length_cells}
 
--- of the numbers `whole` that go into a slice, `rest` is still to come, from place i on
-pub record Filling (whole rest xs₀ xs : List ℕ) (i : ℕ) : Type 0 where
-  pub kept : length xs ≡ length xs₀
-  pub filled : sets xs i rest ≡ sets xs₀ 0 whole
+-- the link and the cell whose records are at a place
+abbrev pub link_in : List ℕ → ℕ → Link
+link_in s at = record { low = low_at s at; high = high_at s at; cost = cost_at s at }
 
-pub filling_none : (whole rest xs : List ℕ) → rest ≡ whole → Filling whole rest xs xs 0
-filling_none whole rest xs e = record { kept = refl; filled = ap (sets xs 0) e }
+abbrev pub cell_in : List ℕ → ℕ → Cell
+cell_in s at = record { dist = dist_at s at; parent = parent_at s at; mark = mark_at s at }
 
-pub filling_next : {whole rest xs₀ xs : List ℕ} {i : ℕ} (x v : ℕ) (rest' ys : List ℕ) → Filling whole rest xs₀ xs i → rest ≡ x ∷ rest' → v ≡ x → ys ≡ set xs i v
-    → Filling whole rest' xs₀ ys (i + 1)
-filling_next {whole} {rest} {xs₀} {xs} {i} x v rest' ys f e g h =
-    let z : sets xs i (x ∷ rest') ≡ sets xs₀ 0 whole = rw e at f.filled in
-    rw (h, g) (record { kept = length-set xs i x ∙ f.kept; filled = rw (add-one i) z })
+-- one number more behind those that were put
+more : (old xs ys zs : List ℕ) (i v : ℕ) → length xs ≡ i → ys ≡ sets old 0 xs → zs ≡ set ys i v → zs ≡ sets old 0 (xs ++ (v ∷ []))
+more old xs ys zs i v n e f =
+    let m : i ≡ 0 + length xs = omega arith in
+    f ∙ ap₂ (λ (l : List ℕ) (k : ℕ). set l k v) e m ∙ sets_append old 0 xs (v ∷ [])
 
-pub filling_all : {whole rest xs₀ xs : List ℕ} {i : ℕ} → Filling whole rest xs₀ xs i → rest ≡ [] → xs ≡ sets xs₀ 0 whole
-filling_all {whole} {rest} {xs₀} {xs} {i} f e = rw e at f.filled
-
--- the records that are left of n, i being done
-module _ (s : List ℕ) (at n i : ℕ) where
-  pub links_next : i < n → links_read s at (n - i) ≡ record { low = low_at s at; high = high_at s at; cost = cost_at s at } ∷ links_read s (at + link_size) (n - (i + 1))
+module _ (s : List ℕ) where
+  -- one record more behind those that are read
+  links_more : (at n : ℕ) → links_read s at (suc n) ≡ links_read s at n ++ (link_in s (at + link_size * n) ∷ [])
   unfolding links_read
-  links_next h = let m : n - i ≡ suc (n - (i + 1)) = omega arith in rw m
+  links_more at zero = let e : at + link_size * 0 ≡ at = omega arith in rw e
+  links_more at (suc n) =
+      let e : at + link_size + link_size * n ≡ at + link_size * suc n = omega arith in
+      ap (λ (ls : List Link). link_in s at ∷ ls) (rw e at (links_more (at + link_size) n))
 
-  pub links_end : n ≤ i → links_read s at (n - i) ≡ []
-  unfolding links_read
-  links_end h = let m : n - i ≡ 0 = omega arith in rw m
-
-  pub cells_next : i < n → cells_read s at (n - i) ≡ record { dist = dist_at s at; parent = parent_at s at; mark = mark_at s at } ∷ cells_read s (at + cell_size) (n - (i + 1))
+  cells_more : (at n : ℕ) → cells_read s at (suc n) ≡ cells_read s at n ++ (cell_in s (at + cell_size * n) ∷ [])
   unfolding cells_read
-  cells_next h = let m : n - i ≡ suc (n - (i + 1)) = omega arith in rw m
+  cells_more at zero = let e : at + cell_size * 0 ≡ at = omega arith in rw e
+  cells_more at (suc n) =
+      let e : at + cell_size + cell_size * n ≡ at + cell_size * suc n = omega arith in
+      ap (λ (cs : List Cell). cell_in s at ∷ cs) (rw e at (cells_more (at + cell_size) n))
 
-  pub cells_end : n ≤ i → cells_read s at (n - i) ≡ []
-  unfolding cells_read
-  cells_end h = let m : n - i ≡ 0 = omega arith in rw m
+  -- a turn of the loop, for one part of a link or a cell
+  pub link_turn : (f : Link → ℕ) (at i v : ℕ) (old xs ys : List ℕ) → xs ≡ sets old 0 (map f (links_read s at i)) → v ≡ f (link_in s (at + link_size * i)) → ys ≡ set xs i v
+      → ys ≡ sets old 0 (map f (links_read s at (i + 1)))
+  link_turn f at i v old xs ys e g h =
+      let n : length (map f (links_read s at i)) ≡ i = length-map (links_read s at i) f ∙ length_links s at i in
+      let whole : map f (links_read s at (i + 1)) ≡ map f (links_read s at i) ++ (v ∷ []) =
+      rw (add-one i, links_more at i, map-append, g) in
+      rw whole (more old (map f (links_read s at i)) xs ys i v n e h)
+
+  pub cell_turn : (f : Cell → ℕ) (at i v : ℕ) (old xs ys : List ℕ) → xs ≡ sets old 0 (map f (cells_read s at i)) → v ≡ f (cell_in s (at + cell_size * i)) → ys ≡ set xs i v
+      → ys ≡ sets old 0 (map f (cells_read s at (i + 1)))
+  cell_turn f at i v old xs ys e g h =
+      let n : length (map f (cells_read s at i)) ≡ i = length-map (cells_read s at i) f ∙ length_cells s at i in
+      let whole : map f (cells_read s at (i + 1)) ≡ map f (cells_read s at i) ++ (v ∷ []) =
+      rw (add-one i, cells_more at i, map-append, g) in
+      rw whole (more old (map f (cells_read s at i)) xs ys i v n e h)
+
+-- a list with a word at each place is the column of those words
+pub column_is : (read : ℕ → ℕ) (from step n : ℕ) (xs : List ℕ) → length xs ≡ n → ((k : ℕ) → k < n → get_or xs k 0 ≡ read (from + step * k)) → xs ≡ column read from step n
+unfolding column
+column_is read from step zero [] e h = refl
+column_is read from step zero (x ∷ xs) e h = absurd (omega arith)
+column_is read from step (suc n) [] e h = absurd (omega arith)
+column_is read from step (suc n) (x ∷ xs) e h =
+    let first : from + step * 0 ≡ from = omega arith in
+    let rest : (k : ℕ) → k < n → get_or xs k 0 ≡ read (from + step + step * k) =
+    λ k l. let m : from + step * suc k ≡ from + step + step * k = omega arith in rw m at (h (suc k) (omega arith)) in
+    ap₂ (λ (y : ℕ) (ys : List ℕ). y ∷ ys) (rw first at (h 0 (omega arith))) (column_is read (from + step) step n xs (omega arith) rest)

@@ -1,4 +1,3 @@
-pub mod WordLaws
 pub mod RecordsLaws
 pub mod BitsLaws
 pub mod FillLaws

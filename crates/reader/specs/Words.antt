@@ -1,5 +1,5 @@
 -- What a file's group is taken apart into: a column of 64-bit words. Places and steps are in bytes.
-use Rattle.std.specs.Prelude.{ℕ, zero, suc, ◌+◌, ◌*◌, cond, List, [], ◌∷◌, get_or, leb}
+use Rattle.std.specs.Prelude.{ℕ, zero, suc, ◌+◌, ◌*◌, List, [], ◌∷◌, get_or}
 
 -- n numbers, one from each `step` bytes, the first at `from`; `read` says what number stands at a place
 unfoldable pub column : (ℕ → ℕ) → ℕ → ℕ → ℕ → List ℕ
@@ -10,7 +10,3 @@ column read from step (suc n) = read from ∷ column read (from + step) step n
 unfoldable pub little : ℕ → List ℕ → ℕ → ℕ
 little zero s i = 0
 little (suc k) s i = get_or s i 0 + 256 * little k s (i + 1)
-
--- the next word's place; a place outside the file is left as it is, since nothing stands behind it
-abbrev pub next_place : ℕ → ℕ → ℕ → ℕ
-next_place size at step = cond (leb size at) at (at + step)

@@ -1,7 +1,7 @@
 // Taking a file apart into lent slices of plain numbers: a slice for each part of a link, one for each part of a node's state,
 // and the group in 64-bit words. Every call is total: a byte outside the file is read as 0, and what a slice has no room for is
 // dropped, so that an empty slice takes nothing. State is taken as stored, not tidied. Places are in bytes.
-ghost use Rattle.std.specs.Prelude.{◌≡◌, ℕ, ◌+◌, List, length, set};
+ghost use Rattle.std.specs.Prelude.{◌≡◌, ℕ, ◌+◌, List, length};
 ghost use Rattle.std.proofs.lemmas.List.Edits.{sets};
 ghost use Rattle.rule.specs.Round.{Link, Cell};
 ghost use Rattle.table.specs.Slices.{lows_of, highs_of, costs_of, dists_of, parents_of, marks_of};
@@ -11,24 +11,10 @@ ghost use Rattle.reader.specs.Words.{column, little};
 
 use crate::numbers;
 use park::layout;
+use wire::bytes::put_at;
 
-// Puts a 16-bit number at a place of a slice; dropped where the slice has no such place.
-fn set16(numbers: &mut [u16], place: usize, x: u16)
-    ensures { numbers.new ≡ set numbers.old place x }
-{
-    if place < numbers.len() {
-        numbers[place] = x;
-    }
-}
-
-// Puts a 32-bit number at a place of a slice; dropped where the slice has no such place.
-fn set32(numbers: &mut [u32], place: usize, x: u32)
-    ensures { numbers.new ≡ set numbers.old place x }
-{
-    if place < numbers.len() {
-        numbers[place] = x;
-    }
-}
+// A word of the group, in bytes.
+const WORD: usize = 8;
 
 // Takes so many links apart: their lower ends, their higher ends and their costs, in cost units.
 pub fn take_links(file: &[u8], links: u16, lows: &mut [u16], highs: &mut [u16], costs: &mut [u16])
@@ -37,15 +23,12 @@ pub fn take_links(file: &[u8], links: u16, lows: &mut [u16], highs: &mut [u16], 
         × (highs.new ≡ sets highs.old 0 (highs_of ls))
         × (costs.new ≡ sets costs.old 0 (costs_of ls)) }
 {
-    let count = wire::wide(links);
-    let mut at = layout::FIRST_LINK;
-    let mut i = 0;
-    while i < count {
-        set16(lows, i, numbers::low(file, at));
-        set16(highs, i, numbers::high(file, at));
-        set16(costs, i, numbers::cost(file, at));
-        at = at + layout::LINK;
-        i = i + 1;
+    for i in 0..usize::from(links) {
+        let at = layout::FIRST_LINK + layout::LINK * i;
+        let link = numbers::Link::read(file, at);
+        put_at(lows, i, link.low);
+        put_at(highs, i, link.high);
+        put_at(costs, i, link.cost);
     }
 }
 
@@ -63,24 +46,25 @@ pub fn take_state(
         × (parents.new ≡ sets parents.old 0 (parents_of t))
         × (marks.new ≡ sets marks.old 0 (marks_of t)) }
 {
-    let count = wire::wide(nodes);
-    let mut at = layout::first_cell(links);
-    let mut i = 0;
-    while i < count {
-        set32(dists, i, numbers::dist(file, at));
-        set16(parents, i, numbers::parent(file, at));
-        wire::bytes::put_byte(marks, i, numbers::mark(file, at));
-        at = at + layout::CELL;
-        i = i + 1;
+    let first = layout::first_cell(links);
+    for i in 0..usize::from(nodes) {
+        let cell = numbers::Cell::read(file, first + layout::CELL * i);
+        put_at(dists, i, cell.dist);
+        put_at(parents, i, cell.parent);
+        put_at(marks, i, cell.mark);
     }
 }
 
 // Takes the group apart into words, as many as the slice has room for, behind so many links.
+#[tactic(auto, using(crate::proofs::FillLaws::column_is))]
 pub fn take_group(file: &[u8], links: u16, words: &mut [u64])
     ensures { let word : ℕ → ℕ = little 8 file.now in
         words.new ≡ column word (group_at links + head_size) 8 (length words.old) }
 {
-    crate::words::words(file, layout::group_at(links) + layout::HEAD, words)
+    let first = layout::group_at(links) + layout::HEAD;
+    for (i, word) in words.iter_mut().enumerate() {
+        *word = numbers::word(file, first + WORD * i);
+    }
 }
 
 // Takes the park of a file apart, without its state: so many links, and behind them the group.

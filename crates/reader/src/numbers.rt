@@ -1,58 +1,74 @@
-// The numbers of one record: a link's ends and cost, and a node's distance, parent and mark, as the definitions of the room park
-// have them, in specs/Reading.antt. The place of a record is in bytes from the file's start; a byte outside the file is 0.
-ghost use Rattle.std.specs.Prelude.{◌≡◌, ◌≤◌};
-ghost use Rattle.park.specs.Layout.{far_place};
+// The numbers of one record: a link's ends and cost, a node's distance, parent and mark, and a word of the group. Each record
+// is read at once. Its place is in bytes from the file's start; a byte outside the file is 0.
+ghost use Rattle.std.specs.Prelude.{◌≡◌, ◌+◌, ◌*◌};
 ghost use Rattle.park.specs.Reading.{low_at, high_at, cost_at, key_at, dist_at, parent_at, mark_at};
+ghost use Rattle.reader.specs.Words.{little};
 
-// The lower end of the link at a place, by its number.
-pub(crate) fn low(file: &[u8], at: usize) -> u16
-    ensures { result ≡ low_at file.now at }
-{
-    wire::big16(file, at)
+use park::layout;
+use wire::bytes::bytes_at;
+
+// A link as it is stored: its ends by their numbers, and its cost, in cost units.
+#[derive(Clone, Copy)]
+pub(crate) struct Link {
+    pub(crate) low: u16,
+    pub(crate) high: u16,
+    pub(crate) cost: u16,
 }
 
-// The higher end of the link at a place, by its number.
-pub(crate) fn high(file: &[u8], at: usize) -> u16
-    requires { at ≤ far_place }
-    ensures { result ≡ high_at file.now at }
-{
-    wire::big16(file, at + 2)
+// A node's state as it is stored: its distance, in cost units, its parent by its number, and its mark.
+#[derive(Clone, Copy)]
+pub(crate) struct Cell {
+    pub(crate) dist: u32,
+    pub(crate) parent: u16,
+    pub(crate) mark: u8,
 }
 
-// The cost of the link at a place, in cost units.
-pub(crate) fn cost(file: &[u8], at: usize) -> u16
-    requires { at ≤ far_place }
-    ensures { result ≡ cost_at file.now at }
-{
-    wire::big16(file, at + 4)
+impl Link {
+    // The link whose record is at a place.
+    #[tactic(auto, unfolding(wire::specs::Big::big))]
+    pub(crate) fn read(file: &[u8], at: usize) -> Link
+        ensures low { result.low ≡ low_at file.now at }
+        ensures high { result.high ≡ high_at file.now at }
+        ensures cost { result.cost ≡ cost_at file.now at }
+        ensures key { result.low * 65536 + result.high ≡ key_at file.now at }
+    {
+        let record: [u8; layout::LINK] = bytes_at(file, at);
+        Link {
+            low: wire::big16(&record, 0),
+            high: wire::big16(&record, 2),
+            cost: wire::big16(&record, 4),
+        }
+    }
+
+    // Both ends as one number, by which links ascend.
+    pub(crate) fn key(self) -> u32
+        ensures { result ≡ self.low * 65536 + self.high }
+    {
+        u32::from(self.low) * 65536 + u32::from(self.high)
+    }
 }
 
-// Both ends of the link at a place as one number, by which links ascend.
-pub(crate) fn key(file: &[u8], at: usize) -> u32
-    ensures { result ≡ key_at file.now at }
-{
-    wire::big32(file, at)
+impl Cell {
+    // The state of the node whose record is at a place.
+    #[tactic(auto, unfolding(wire::specs::Big::big))]
+    pub(crate) fn read(file: &[u8], at: usize) -> Cell
+        ensures dist { result.dist ≡ dist_at file.now at }
+        ensures parent { result.parent ≡ parent_at file.now at }
+        ensures mark { result.mark ≡ mark_at file.now at }
+    {
+        let record: [u8; layout::CELL] = bytes_at(file, at);
+        Cell {
+            dist: wire::big32(&record, 0),
+            parent: wire::big16(&record, 4),
+            mark: record[6],
+        }
+    }
 }
 
-// The distance of the node at a place, in cost units.
-pub(crate) fn dist(file: &[u8], at: usize) -> u32
-    ensures { result ≡ dist_at file.now at }
+// The eight bytes from a place on as one word, the low byte first.
+#[tactic(auto, unfolding(crate::specs::Words::little))]
+pub(crate) fn word(file: &[u8], at: usize) -> u64
+    ensures { result ≡ little 8 file.now at }
 {
-    wire::big32(file, at)
-}
-
-// The parent of the node at a place, by its number.
-pub(crate) fn parent(file: &[u8], at: usize) -> u16
-    requires { at ≤ far_place }
-    ensures { result ≡ parent_at file.now at }
-{
-    wire::big16(file, at + 4)
-}
-
-// The mark of the node at a place.
-pub(crate) fn mark(file: &[u8], at: usize) -> u8
-    requires { at ≤ far_place }
-    ensures { result ≡ mark_at file.now at }
-{
-    wire::bytes::byte_at(file, at + 6)
+    u64::from_le_bytes(bytes_at(file, at))
 }

@@ -4,22 +4,15 @@
 
 ghost use Rattle.right.specs.Right.{Judged};
 
-use answers::{RightAnswer, RunAnswer};
+use answers::refusal::Refusal;
 use measure::Rounds;
 
 // Whether the stored state of a file is the exact table, or the file's refusal. The file that the run writes goes into an
 // area of its own, in which every file has room.
-pub fn right(file: &[u8]) -> RightAnswer
+pub fn right(file: &[u8]) -> Result<bool, Refusal>
     ensures { Judged file.now result }
 {
     let mut area = [0u8; park::layout::LARGEST];
-    match run::run(file, Rounds(0), &mut area, 0) {
-        RunAnswer::Refused(refusal) => RightAnswer::Refused(refusal),
-        RunAnswer::Done { rounds: _, quiet } => {
-            if quiet {
-                return RightAnswer::Yes;
-            }
-            RightAnswer::No
-        }
-    }
+    let ran = run::run(file, Rounds(0), &mut area, 0)?;
+    Ok(ran.quiet)
 }

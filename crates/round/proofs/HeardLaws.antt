@@ -66,7 +66,7 @@ module _ (D P M : ℕ → ℕ) (i : ℕ) where
       told = ap (λ (t : Bool). t || asks P M a.from i) h.asked ∙ sym (asked_snoc P M i xs a)
 
       go : (t : Bool) → Then D xs b.dist.0 (kept_arc b) a t
-          → Heard D P M i (xs ++ a ∷ []) (cond t (record { dist = record { 0 = through D a }; from = a.from; cost = record { 0 = a.cost }; asked = b.asked || asks P M a.from i }) (with_asked b (asks P M a.from i)))
+          → Heard D P M i (xs ++ a ∷ []) (cond t (record { dist = record { 0 = through D a }; arc = record { from = a.from; cost = record { 0 = a.cost } }; asked = b.asked || asks P M a.from i }) (with_asked b (asks P M a.from i)))
       go true k = record { kept = k; asked = told }
       go false k = record { kept = k; asked = told }
 

@@ -21,12 +21,12 @@ unfolding parent_by
 by_root root ls D i e = sym (parent_none (bare_net root ls) D (new_dist (bare_net root ls) D i) i (inl (sym e)))
 
 pub by_search : (root : ℕ) (ls : List Link) (D P M : ℕ → ℕ) (i : ℕ) (b : Best) → (root ≡ i → ⊥) → b ≡ passed_all D P M i unheard ls
-    → D 0 ≡ ceiling → M 0 ≡ 0 → b.from ≡ parent_by root ls D i
+    → D 0 ≡ ceiling → M 0 ≡ 0 → b.arc.from ≡ parent_by root ls D i
 unfolding parent_by parent_at new_dist
 by_search root ls D P M i b n e far clear =
     let h = heard D P M i far clear ls in
     let z : eqb i root ≡ false = ne_eqb i root (λ q. n (sym q)) in
-    ap (λ (x : Best). x.from) e
+    ap (λ (x : Best). x.arc.from) e
     ∙ kept_from D (arcs_of ls i) (passed_all D P M i unheard ls).dist.0 (kept_arc (passed_all D P M i unheard ls)) h.kept
     ∙ ap (λ (v : ℕ). cond (eqb v ceiling) 0 (chosen (giving D v (arcs_of ls i)))) h.kept.dist
     ∙ rw z

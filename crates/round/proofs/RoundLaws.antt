@@ -6,7 +6,9 @@ use mathlib.Core.Path.{◌≡◌, refl, sym, ap, ◌∙◌, subst₃}
 use mathlib.Core.List.{List, [], ◌∷◌, map}
 use lib.ListN.{length, get_or, set, length-map}
 use Rattle.rule.specs.Round.{Net, Cell, new_cell, at, numbered, round, net_of}
-use Rattle.table.specs.Slices.{dists_of, parents_of, marks_of, cells_of, park_of}
+use Rattle.table.specs.Slices.{dists_of, parents_of, marks_of, cells_of}
+use Rattle.table.specs.Lent.{park_over}
+use Rattle.table.specs.declared.Net as lent
 use Rattle.table.specs.Fit.{Together, Holds}
 use Rattle.round.specs.Table.{cell_after, round_of}
 use Rattle.round.proofs.PairLaws.{Filled, filled_start, filled_next, filled_all}
@@ -43,12 +45,12 @@ module _ (N : Net) (n : ℕ) (t : List Cell) where
       ∙ ap (λ (i : ℕ). f (new_cell N (at t) i)) (add_comm 1 k)
 
 -- The round is written node by node into slices of as many nodes.
-module _ (root : ℕ) (ls hs cs ws ds ps ms ds₀ ps₀ ms₀ : List ℕ) (fit : Together ds ps ms ds₀ ps₀ ms₀) where
+module _ (net : lent.Net) (ds ps ms ds₀ ps₀ ms₀ : List ℕ) (fit : Together ds ps ms ds₀ ps₀ ms₀) where
   abbrev N : Net
-  N = net_of (park_of (length ds) root ls hs cs ws)
+  N = net_of (park_over (length ds) net)
 
   abbrev t : List Cell
-  t = round_of root ls hs cs ws ds ps ms
+  t = round_of net ds ps ms
 
   part_nodes : (f : Cell → ℕ) → length (map f t) ≡ length ds
   part_nodes f = part_length N (length ds) (cells_of ds ps ms) f
@@ -64,20 +66,13 @@ module _ (root : ℕ) (ls hs cs ws ds ps ms ds₀ ps₀ ms₀ : List ℕ) (fit :
       })
 
   module _ (ds' ps' ms' : List ℕ) (k : ℕ) (u : Filled (dists_of t) (parents_of t) (marks_of t) ds₀ ps₀ ms₀ ds' ps' ms' k) where
-    -- the slices are as long as before
-    pub round_fits : Together ds ps ms ds' ps' ms'
-    round_fits =
-        let d = part_nodes (λ (c : Cell). c.dist) in
-        let e = u.now.second in
-        record { table = fit.table; second = (e.0 ∙ d, e.1 ∙ d, e.2 ∙ d) }
-
     pub round_next : k < length ds → (ds'' ps'' ms'' : List ℕ)
-        → (ds'' ≡ set ds' k (cell_after root ls hs cs ws ds ps ms (k + 1)).dist)
-        × (ps'' ≡ set ps' k (cell_after root ls hs cs ws ds ps ms (k + 1)).parent)
-        × (ms'' ≡ set ms' k (cell_after root ls hs cs ws ds ps ms (k + 1)).mark)
+        → (ds'' ≡ set ds' k (cell_after net ds ps ms (k + 1)).dist)
+        × (ps'' ≡ set ps' k (cell_after net ds ps ms (k + 1)).parent)
+        × (ms'' ≡ set ms' k (cell_after net ds ps ms (k + 1)).mark)
         → Filled (dists_of t) (parents_of t) (marks_of t) ds₀ ps₀ ms₀ ds'' ps'' ms'' (k + 1)
     round_next h ds'' ps'' ms'' w =
-        let part : (f : Cell → ℕ) → f (cell_after root ls hs cs ws ds ps ms (k + 1)) ≡ get_or (map f t) k 0 =
+        let part : (f : Cell → ℕ) → f (cell_after net ds ps ms (k + 1)) ≡ get_or (map f t) k 0 =
         λ f. sym (part_of N (length ds) (cells_of ds ps ms) f k h) in
         let l : k < length (dists_of t) = omega (arith, part_nodes (λ (c : Cell). c.dist)) in
         subst₃ (λ (a b c : List ℕ). Filled (dists_of t) (parents_of t) (marks_of t) ds₀ ps₀ ms₀ a b c (k + 1)) (sym w.0) (sym w.1) (sym w.2)

@@ -12,7 +12,7 @@ asks P M from i = eqb (P from) i && not (eqb (M from) 0)
 
 -- once one neighbour more has asked, or has not
 abbrev pub with_asked : Best → Bool → Best
-with_asked b q = record { dist = b.dist; from = b.from; cost = b.cost; asked = b.asked || q }
+with_asked b q = record { dist = b.dist; arc = b.arc; asked = b.asked || q }
 
 -- what node i knows after one arc more
 unfoldable pub hear : (ℕ → ℕ) → (ℕ → ℕ) → (ℕ → ℕ) → ℕ → Best → Arc → Best

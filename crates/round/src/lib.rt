@@ -17,84 +17,48 @@ ghost use Rattle.table.specs.Fit.{Together, Holds};
 ghost use Rattle.round.specs.Table.{cell_after, round_of};
 
 use node::new_cell;
+use table::{Net, Table};
 
 // Writes what the node at place `at` of the old table holds after the round. Only old values are read.
 fn write_cell(
     at: usize,
-    root: u16,
-    lows: &[u16],
-    highs: &[u16],
-    costs: &[u16],
-    words: &[u64],
-    old_dists: &[u32],
-    old_parents: &[u16],
-    old_marks: &[u8],
+    net: &Net<'_>,
+    table: &Table<'_>,
     new_dists: &mut [u32],
     new_parents: &mut [u16],
     new_marks: &mut [u8],
 )
-    requires at_in_bounds { at < length old_dists.now }
-    requires together { Together old_dists.now old_parents.now old_marks.now
+    requires at_in_bounds { at < length table.now.dists.now }
+    requires together { Together table.now.dists.now table.now.parents.now table.now.marks.now
         new_dists.old new_parents.old new_marks.old }
-    ensures written { let cell : Cell = cell_after root lows.now highs.now costs.now words.now
-        old_dists.now old_parents.now old_marks.now (at + 1) in
+    ensures written { let cell : Cell = cell_after net.now
+        table.now.dists.now table.now.parents.now table.now.marks.now (at + 1) in
         (new_dists.new ≡ set new_dists.old at cell.dist)
         × (new_parents.new ≡ set new_parents.old at cell.parent)
         × (new_marks.new ≡ set new_marks.old at cell.mark) }
 {
-    let cell = new_cell(
-        at + 1,
-        root,
-        lows,
-        highs,
-        costs,
-        words,
-        old_dists,
-        old_parents,
-        old_marks,
-    );
+    let cell = new_cell(at + 1, net, table);
     new_dists[at] = cell.dist.0;
     new_parents[at] = cell.parent;
     new_marks[at] = cell.mark;
 }
 
-// One round of all nodes together, from the stored table into the three new slices. Distances and costs are in cost units, `root` and
-// parents are node numbers; the park has as many nodes as there are distances.
+// One round of all nodes together, from the stored table into the three new slices. Distances and costs are in cost units, parents are
+// node numbers; the park has as many nodes as there are distances.
 pub(crate) fn one_round(
-    root: u16,
-    lows: &[u16],
-    highs: &[u16],
-    costs: &[u16],
-    words: &[u64],
-    dists: &[u32],
-    parents: &[u16],
-    marks: &[u8],
+    net: &Net<'_>,
+    table: &Table<'_>,
     new_dists: &mut [u32],
     new_parents: &mut [u16],
     new_marks: &mut [u8],
 )
-    requires { Together dists.now parents.now marks.now new_dists.old new_parents.old new_marks.old }
+    requires { Together table.now.dists.now table.now.parents.now table.now.marks.now
+        new_dists.old new_parents.old new_marks.old }
     ensures holds { Holds
-        (round_of root lows.now highs.now costs.now words.now
-        dists.now parents.now marks.now)
+        (round_of net.now table.now.dists.now table.now.parents.now table.now.marks.now)
         new_dists.new new_parents.new new_marks.new }
 {
-    let mut at = 0;
-    while at < dists.len() {
-        write_cell(
-            at,
-            root,
-            lows,
-            highs,
-            costs,
-            words,
-            dists,
-            parents,
-            marks,
-            new_dists,
-            new_parents,
-            new_marks,
-        );
-        at += 1;
+    for at in 0..table.dists.len() {
+        write_cell(at, net, table, new_dists, new_parents, new_marks);
     }
 }

@@ -3,21 +3,21 @@
 ghost use Rattle.std.specs.Prelude.{◌≡◌, ◌||◌, cond, length};
 ghost use Rattle.measure.specs.Measure.{ceiling};
 ghost use Rattle.group.specs.Group.{member_in};
-ghost use Rattle.table.specs.Slices.{links_of};
+ghost use Rattle.table.specs.Lent.{links_in};
 ghost use Rattle.table.specs.Nodes.{node_at};
 ghost use Rattle.round.specs.Keep.{unheard};
 ghost use Rattle.round.specs.Scan.{passed_all, cell_of};
 ghost use Rattle.round.specs.Table.{cell_after};
 
 use crate::hear::hear_arc;
-use crate::keep::Best;
+use crate::keep::{Arc, Best};
 use group::is_member;
-use links::{other_end, touches};
+use links::other_end;
 use measure::Cost;
-use table::shortest;
+use table::{Links, Net, Table, shortest};
 
 // What is stored for a node.
-#[derive(Drop)]
+#[derive(Clone, Copy)]
 pub struct Stored {
     // The distance from the root, in cost units.
     pub dist: Cost,
@@ -27,37 +27,23 @@ pub struct Stored {
     pub mark: u8,
 }
 
-// What `node` knows after all links.
-pub(crate) fn pass_links(
-    node: usize,
-    lows: &[u16],
-    highs: &[u16],
-    costs: &[u16],
-    dists: &[u32],
-    parents: &[u16],
-    marks: &[u8],
-) -> Best
-    ensures { result ≡ passed_all (node_at ceiling dists.now) (node_at 0 parents.now) (node_at 0 marks.now)
-        node unheard (links_of lows.now highs.now costs.now) }
+// What `node` knows after all links. An arc from 0, which is no node, says nothing.
+pub(crate) fn pass_links(node: usize, links: &Links<'_>, table: &Table<'_>) -> Best
+    ensures { result ≡ passed_all (node_at ceiling table.now.dists.now) (node_at 0 table.now.parents.now)
+        (node_at 0 table.now.marks.now) node unheard (links_in links.now) }
 {
     let mut best = Best {
         dist: Cost::CEILING,
-        from: 0,
-        cost: Cost(0),
+        arc: Arc {
+            from: 0,
+            cost: Cost(0),
+        },
         asked: false,
     };
-    let end = shortest(lows.len(), highs.len(), costs.len());
-    let mut at = 0;
-    while at < end {
-        let place = at;
-        at += 1;
-        let low = lows[place];
-        let high = highs[place];
-        if touches(low, high, node) {
-            let from = other_end(low, high, node);
-            if from != 0 {
-                best = hear_arc(best, node, from, costs[place], dists, parents, marks);
-            }
+    for at in 0..shortest(links.lows.len(), links.highs.len(), links.costs.len()) {
+        if let Some(from) = other_end(links.lows[at], links.highs[at], node) {
+            let cost = Cost(u32::from(links.costs[at]));
+            best = hear_arc(best, node, Arc { from, cost }, table);
         }
     }
     best
@@ -67,44 +53,28 @@ pub(crate) fn pass_links(
 fn new_mark(words: &[u64], node: usize, asked: bool) -> u8
     ensures { result ≡ cond (member_in 64 words.now node || asked) 1 0 }
 {
-    if asked {
-        return 1;
-    }
-    if is_member(words, node) {
-        return 1;
-    }
-    0
+    u8::from(is_member(words, node) || asked)
 }
 
 // What `node` holds after the round.
-pub(crate) fn new_cell(
-    node: usize,
-    root: u16,
-    lows: &[u16],
-    highs: &[u16],
-    costs: &[u16],
-    words: &[u64],
-    dists: &[u32],
-    parents: &[u16],
-    marks: &[u8],
-) -> Stored
-    requires { (length parents.now ≡ length dists.now) × (length marks.now ≡ length dists.now) }
-    ensures { cell_of result ≡ cell_after root lows.now highs.now costs.now words.now
-        dists.now parents.now marks.now node }
+pub(crate) fn new_cell(node: usize, net: &Net<'_>, table: &Table<'_>) -> Stored
+    requires { (length table.now.parents.now ≡ length table.now.dists.now)
+        × (length table.now.marks.now ≡ length table.now.dists.now) }
+    ensures { cell_of result ≡ cell_after net.now table.now.dists.now table.now.parents.now
+        table.now.marks.now node }
 {
-    let best = pass_links(node, lows, highs, costs, dists, parents, marks);
-    let mark = new_mark(words, node, best.asked);
-    if root as usize == node {
+    let best = pass_links(node, &net.links, table);
+    let mark = new_mark(net.words, node, best.asked);
+    if usize::from(net.root) == node {
         return Stored {
             dist: Cost(0),
             parent: 0,
             mark,
         };
     }
-    let dist = best.dist;
     Stored {
-        dist,
-        parent: best.from,
+        dist: best.dist,
+        parent: best.arc.from,
         mark,
     }
 }

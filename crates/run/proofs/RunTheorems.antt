@@ -17,7 +17,7 @@ use Rattle.rule.proofs.DistanceLaws.{solved_le}
 use Rattle.rule.proofs.TableLaws.{length_round, table_same}
 use Rattle.rule.proofs.Demand3.{quiet, unique, exact_quiet, exact_still, demand3}
 use Rattle.wire.specs.Big.{Bytes}
-use Rattle.answers.specs.declared.refusal.Verdict.TheVariants.{Fine}
+use Rattle.answers.specs.Verdicts.{fine}
 use Rattle.park.specs.ParkFile.{park_in, encode, with_state}
 use Rattle.park.specs.Reading.{verdict_of, file_in}
 use Rattle.park.proofs.ParkLaws.{fine_ok}
@@ -57,7 +57,7 @@ module _ {p : Park} (ok : ParkOk p) {e : List Cell} (x : Exact p e) (t : List Ce
       table_same (after p r t) e p.nodes (length_then r (omega arith)) x.size (λ i w. cell_then i (record { least = w.0; most = w.1 }))
 
 -- a file that is not refused, and a count of rounds
-module _ (s : List ℕ) (b : Bytes s) (fine : verdict_of s ≡ Fine) (N : ℕ) where
+module _ (s : List ℕ) (b : Bytes s) (taken : verdict_of s ≡ fine) (N : ℕ) where
   abbrev p : Park
   p = park_in (file_in s)
 
@@ -68,7 +68,7 @@ module _ (s : List ℕ) (b : Bytes s) (fine : verdict_of s ≡ Fine) (N : ℕ) w
   o = end_of (file_in s) N
 
   ok : ParkOk p
-  ok = fine_ok s b fine
+  ok = fine_ok s b taken
 
   -- a run whose table rests within the count comes to the exact table
   pub run_rests : {e : List Cell} → Exact p e → (k : ℕ) → k ≤ N → round (net_of p) p.nodes (rounds (net_of p) p.nodes k t) ≡ rounds (net_of p) p.nodes k t

@@ -1,16 +1,16 @@
 -- Run of document 01: "Run with a count N from 0 to 16,777,217: do rounds until N are done or the next would change nothing."
 -- Counts are in rounds, sizes and places in bytes.
-use Rattle.std.specs.Prelude.{ℕ, List, Bool, ◌||◌, leb, ltb, length}
+use Rattle.std.specs.Prelude.{ℕ, List, Bool, ◌||◌, leb, ltb, length, Result, Ok, Err}
 use Rattle.measure.specs.Measure.{most_rounds}
 use Rattle.rule.specs.Round.{net_of}
-use Rattle.answers.specs.declared.refusal.Verdict.{Verdict}
 use Rattle.park.specs.ParkFile.{ParkFile, park_in, encode, with_state}
-use Rattle.answers.specs.Verdicts.{unless, ◌then◌, by_verdict}
+use Rattle.answers.specs.Verdicts.{Verdict, unless, ◌then◌, by_verdict}
 use Rattle.park.specs.Reading.{verdict_of, file_in}
 use Rattle.answers.specs.declared.refusal.Refusal.TheVariants.{Count, Unsettled}
 use Rattle.area.specs.Area.{room_for}
-use Rattle.round.specs.Run.{RunEnd, run_of}
-use Rattle.answers.specs.declared.RunAnswer as answer
+use Rattle.round.specs.Run.{RunEnd, run_of, ran_of}
+use Rattle.answers.specs.declared.Ran.{Ran}
+use Rattle.answers.specs.declared.refusal.Refusal.{Refusal}
 
 -- "do rounds until N are done or the next would change nothing": the rounds done, whether it is quiet, and the table
 unfoldable pub end_of : ParkFile → ℕ → RunEnd
@@ -32,10 +32,6 @@ run_verdict s N area place = verdict_of s then ready_for N (length s) area place
 unfoldable pub run_file : List ℕ → ℕ → List ℕ
 run_file s N = encode (with_state (file_in s) (end_of (file_in s) N).table)
 
--- "Answers the rounds done and whether it is quiet"
-abbrev pub answer_of : RunEnd → answer.RunAnswer
-answer_of o = answer.TheVariants.Done (record { 0 = o.rounds }) o.quiet
-
--- what Run answers for a file, a count and an area of so many bytes
-unfoldable pub run_answer : List ℕ → ℕ → ℕ → ℕ → answer.RunAnswer
-run_answer s N area place = by_verdict (run_verdict s N area place) (answer_of (end_of (file_in s) N)) answer.TheVariants.Refused
+-- what Run answers for a file, a count and an area of so many bytes: "the rounds done and whether it is quiet", or the refusal
+unfoldable pub run_answer : List ℕ → ℕ → ℕ → ℕ → Result Ran Refusal
+run_answer s N area place = by_verdict (run_verdict s N area place) (Ok (ran_of (end_of (file_in s) N))) Err

@@ -16,7 +16,7 @@ use Rattle.table.specs.Nodes.{node_at}
 use Rattle.table.specs.Slices.{marks_of, park_of}
 use Rattle.table.proofs.TableLaws.{part_at}
 use Rattle.answers.specs.declared.Counts.{Counts}
-use Rattle.answers.specs.declared.refusal.Verdict.TheVariants.{Fine}
+use Rattle.answers.specs.Verdicts.{fine}
 use Rattle.park.specs.Layout.{head_size, group_at, first_cell}
 use Rattle.park.specs.ParkFile.{park_in}
 use Rattle.park.specs.Reading.{nodes_in, link_count, verdict_of, cells_read, file_in}
@@ -37,7 +37,7 @@ count_most f i (suc n) = go (f i) (count_most f (suc i) n)
     go true h = suc-le-suc h
     go false h = omega arith
 
-module _ (s : List ℕ) (bytes : Bytes s) (fine : verdict_of s ≡ Fine) where
+module _ (s : List ℕ) (bytes : Bytes s) (fine : verdict_of s ≡ fine) where
   abbrev n : ℕ
   n = nodes_in s
 

@@ -1,12 +1,12 @@
 -- What Summary answers for a file, by document 01: "members, marked nodes, and served members". All are in nodes.
-use Rattle.std.specs.Prelude.{ℕ, Bool, not, ◌&&◌, List, length, eqb}
+use Rattle.std.specs.Prelude.{ℕ, Bool, not, ◌&&◌, List, length, eqb, Result, Ok, Err}
 use Rattle.rule.specs.Round.{at, numbered}
 use Rattle.group.specs.Group.{member_in}
 use Rattle.group.specs.Count.{count}
 use Rattle.table.specs.Nodes.{node_at}
 use Rattle.answers.specs.Verdicts.{by_verdict}
 use Rattle.answers.specs.declared.Counts.{Counts}
-use Rattle.answers.specs.declared.SummaryAnswer as answer
+use Rattle.answers.specs.declared.refusal.Refusal.{Refusal}
 use Rattle.park.specs.ParkFile.{ParkFile, park_in}
 use Rattle.park.specs.Reading.{verdict_of, file_in}
 
@@ -32,8 +32,8 @@ counts_of f =
     }
 
 -- the counts of a file, or its refusal
-unfoldable pub summary_answer : List ℕ → answer.SummaryAnswer
-summary_answer s = by_verdict (verdict_of s) (answer.TheVariants.Counted (counts_of (file_in s))) answer.TheVariants.Refused
+unfoldable pub summary_answer : List ℕ → Result Counts Refusal
+summary_answer s = by_verdict (verdict_of s) (Ok (counts_of (file_in s))) Err
 
 -- whether node i is marked, by the marks in a slice, and whether it is a served member, by the words of the group set too
 abbrev pub marked_at : List ℕ → ℕ → Bool

@@ -9,31 +9,16 @@ use group::is_member;
 pub(crate) fn marked(marks: &[u8]) -> usize
     ensures { result ≡ marked_of marks.now }
 {
-    let mut set: usize = 0;
-    let mut k = 0;
-    while k < marks.len() {
-        if marks[k] != 0 {
-            set += 1;
-        }
-        k += 1;
-    }
-    set
+    marks.iter().filter(|mark| **mark != 0).count()
 }
 
 // The members whose stored mark is set, in nodes.
 pub(crate) fn served(words: &[u64], marks: &[u8]) -> usize
     ensures { result ≡ served_of words.now marks.now }
 {
-    let mut found: usize = 0;
-    let mut k = 0;
-    while k < marks.len() {
-        let mark = marks[k];
-        if mark != 0 {
-            if is_member(words, k + 1) {
-                found += 1;
-            }
-        }
-        k += 1;
-    }
-    found
+    marks
+        .iter()
+        .enumerate()
+        .filter(|(k, mark)| is_member(words, k + 1) && **mark != 0)
+        .count()
 }

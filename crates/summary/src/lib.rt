@@ -1,21 +1,21 @@
 // Summary: how many nodes of a park file are members, are marked, and are served members. The file is read, its group set is taken
-// apart into four whole words and its state into local arrays, and they are counted there.
+// apart into four whole words and its marks into a local array, and they are counted there.
 #![tactic(auto)]
 
 mod counts;
 
 ghost use Rattle.std.specs.Prelude.{◌≡◌, ◌≤◌, length};
 ghost use Rattle.measure.specs.Measure.{most_nodes};
-ghost use Rattle.park.specs.Reading.{ReadAs, file_in};
+ghost use Rattle.park.specs.Reading.{file_in};
 ghost use Rattle.group.specs.Count.{members_of};
 ghost use Rattle.summary.specs.Summary.{marked_of, served_of, counts_of, summary_answer};
 
-use answers::{Counts, Head, ReadAnswer, SummaryAnswer};
+use answers::Counts;
+use answers::refusal::Refusal;
+use group::WORDS;
 use measure::NODES;
+use reader::ReadFile;
 use reader::apart::{take_group, take_state};
-
-// The words of the group set.
-const WORDS: usize = 4;
 
 // The three counts, over the words of the group set and the marks of no more nodes than a file has.
 fn count_all(words: &[u64], marks: &[u8]) -> Counts
@@ -35,34 +35,23 @@ fn count_all(words: &[u64], marks: &[u8]) -> Counts
 }
 
 // The counts of a file that was read.
-fn counts_in(file: &[u8], head: Head) -> Counts
-    requires { ReadAs file.now head }
-    ensures { result ≡ counts_of (file_in file.now) }
+#[tactic(auto, using(park::proofs::ParkLaws::lent))]
+fn counts_in(read: &ReadFile<'_>) -> Counts
+    ensures { result ≡ counts_of (file_in read.now.file.now) }
 {
-    let n = wire::wide(head.nodes);
+    let ReadFile { file, head } = *read;
+    let n = usize::from(head.nodes);
     let mut words = [0u64; WORDS];
-    let mut dists = [0u32; NODES];
-    let mut parents = [0u16; NODES];
     let mut marks = [0u8; NODES];
     take_group(file, head.links, &mut words);
-    take_state(
-        file,
-        head.nodes,
-        head.links,
-        &mut dists,
-        &mut parents,
-        &mut marks,
-    );
+    take_state(file, head.nodes, head.links, &mut [], &mut [], &mut marks);
     count_all(&words, &marks[..n])
 }
 
 // The counts of a file, in nodes, or its refusal.
-pub fn summary(file: &[u8]) -> SummaryAnswer
+pub fn summary(file: &[u8]) -> Result<Counts, Refusal>
     ensures { result ≡ summary_answer file.now }
 {
-    let found = reader::read(file);
-    match found {
-        ReadAnswer::Refused(r) => SummaryAnswer::Refused(r),
-        ReadAnswer::Park(head) => SummaryAnswer::Counted(counts_in(file, head)),
-    }
+    let read = ReadFile::new(file)?;
+    Ok(counts_in(&read))
 }

@@ -19,9 +19,6 @@ links_le (l ∷ ls) (h ∷ hs) (c ∷ cs) = omega (arith, links_le ls hs cs)
 pub links_past : (ls hs cs : List ℕ) (j : ℕ) → min (length ls) (min (length hs) (length cs)) ≤ j → drop j (links_of ls hs cs) ≡ []
 links_past ls hs cs j h = let z : length (links_of ls hs cs) ≤ j = omega (arith, links_le ls hs cs) in drop_of_length-le (links_of ls hs cs) z
 
-pub links_end : (ls hs cs : List ℕ) (j : ℕ) → length ls ≤ j → drop j (links_of ls hs cs) ≡ []
-links_end ls hs cs j h = links_past ls hs cs j (omega arith)
-
 -- at any other place the next link is the one that stands there
 pub links_next : (ls hs cs : List ℕ) (j : ℕ) → j < length ls → j < length hs → j < length cs → drop j (links_of ls hs cs) ≡ link_at ls hs cs j ∷ drop (suc j) (links_of ls hs cs)
 unfolding links_of

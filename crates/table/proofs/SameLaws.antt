@@ -1,38 +1,25 @@
--- Comparison number by number: at each place the two lists go on alike, part, or end together. And it says yes exactly of equals.
-use Prim.Native.Nat.{ℕ, suc, ◌+◌, ◌≤◌, ◌<◌}
-use native.Mathlib.Numerals.{add-one}
-use native.Mathlib.Omega.{arith}
+-- Comparison number by number: it is the library's, and says yes exactly of equals.
+use Prim.Native.Nat.{ℕ}
 use mathlib.Core.Path.{◌≡◌, refl, sym, ap, ap₂, ◌∙◌}
 use mathlib.Core.Logic.{◌↔◌}
-use mathlib.Core.Bool.{Bool, true, false, ◌&&◌, false≢true}
+use mathlib.Core.Bool.{Bool, true, ◌&&◌, false≢true}
 use mathlib.Core.List.{List, [], ◌∷◌}
-use lib.ListN.{length, get_or, drop, drop_of_length-le}
-use lib.Seq.{drop-cons}
 use lib.Dec.{eqb}
-use borrow.Author.Tests.{eqb-true, eq-eqb, ne_eqb}
+use borrow.Author.Tests.{eqb-true, eq-eqb}
+use Rattle.std.specs.Cmp.Lexicographic.{pointwise}
 use Rattle.rule.specs.Round.{Cell}
 use Rattle.table.specs.Slices.{cells_of, dists_of, parents_of, marks_of}
 use Rattle.table.specs.Same.{same_numbers, same_table}
 use Rattle.table.proofs.TableLaws.{cells_of_lem}
 use Rattle.table.proofs.TestLaws.{both_true}
 
--- a comparison that has come to place j
-module _ (xs ys : List ℕ) (j : ℕ) (all : Bool) (so_far : same_numbers (drop j xs) (drop j ys) ≡ all) where
-  here : j < length xs → j < length ys → (eqb (get_or xs j 0) (get_or ys j 0) && same_numbers (drop (suc j) xs) (drop (suc j) ys)) ≡ all
-  unfolding same_numbers
-  here h k = ap₂ same_numbers (sym (drop-cons xs j 0 h)) (sym (drop-cons ys j 0 k)) ∙ so_far
-
-  pub same_next : j < length xs → length xs ≡ length ys → get_or xs j 0 ≡ get_or ys j 0 → same_numbers (drop (j + 1) xs) (drop (j + 1) ys) ≡ all
-  same_next h n e = rw (add-one j) (rw (eq-eqb (get_or xs j 0) (get_or ys j 0) e) at (here h (omega arith)))
-
-  pub same_differ : j < length xs → length xs ≡ length ys → (get_or xs j 0 ≡ get_or ys j 0 → ⊥) → false ≡ all
-  same_differ h n e = rw (ne_eqb (get_or xs j 0) (get_or ys j 0) e) at (here h (omega arith))
-
-  pub same_end : length xs ≤ j → length xs ≡ length ys → true ≡ all
-  unfolding same_numbers
-  same_end h n =
-      let k : length ys ≤ j = omega arith in
-      ap₂ same_numbers (sym (drop_of_length-le xs h)) (sym (drop_of_length-le ys k)) ∙ so_far
+-- the library's comparison is this one
+pub numbers_are : (xs ys : List ℕ) → pointwise eqb xs ys ≡ same_numbers xs ys
+unfolding same_numbers
+numbers_are [] [] = refl
+numbers_are [] (y ∷ ys) = refl
+numbers_are (x ∷ xs) [] = refl
+numbers_are (x ∷ xs) (y ∷ ys) = ap (λ (b : Bool). eqb x y && b) (numbers_are xs ys)
 
 -- what a comparison says yes to
 

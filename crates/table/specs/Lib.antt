@@ -3,3 +3,4 @@ pub mod Nodes
 pub mod Fit
 pub mod Same
 pub mod Flag
+pub mod Lent

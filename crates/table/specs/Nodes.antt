@@ -2,8 +2,8 @@
 use Rattle.std.specs.Prelude.{ℕ, List, ◌∷◌, get_or}
 use Rattle.rule.specs.Round.{Link}
 
--- the number that stands for node i; `none` for a number that is no node
-abbrev pub node_at : ℕ → List ℕ → ℕ → ℕ
+-- what stands for node i; `none` for a number that is no node
+abbrev pub node_at : {A : Type 0} → A → List A → ℕ → A
 node_at none xs i = get_or (none ∷ xs) i none
 
 -- the link at place j

@@ -17,11 +17,11 @@ use Rattle.park.proofs.ParkLaws.{read_park_ok}
 use Rattle.answers.specs.declared.Outcome.TheVariants.{Reached}
 use Rattle.way.specs.Way.{park_way, way_answer}
 use Rattle.way.proofs.WayLaws.{exact_reaches}
-use Rattle.answers.specs.declared.WayAnswer.TheVariants.{Told}
+use Rattle.std.specs.Prelude.{Ok}
 use Rattle.way.proofs.WayFileLaws.{way_told}
 
 -- what is told of a node of a file that is read as a park
-told : (s : List ℕ) (f : ParkFile) → read_park s ≡ park f → (i : ℕ) → Node (park_in f) i → way_answer s i ≡ Told (park_way (park_in f) f.state i)
+told : (s : List ℕ) (f : ParkFile) → read_park s ≡ park f → (i : ℕ) → Node (park_in f) i → way_answer s i ≡ Ok (park_way (park_in f) f.state i)
 unfolding file_in park_in
 told s f e i node =
     let p = read_fine s f e in
@@ -31,9 +31,9 @@ told s f e i node =
 
 pub exact_told : (s : List ℕ) (f : ParkFile) → Bytes s → read_park s ≡ park f → Exact (park_in f) f.state
     → (i x : ℕ) → Node (park_in f) i → Route (net_of (park_in f)) i x
-    → (h : ℕ) × (h < (park_in f).nodes) × (way_answer s i ≡ Told (record { node = i; outcome = Reached (record { 0 = h }) }))
+    → (h : ℕ) × (h < (park_in f).nodes) × (way_answer s i ≡ Ok (record { node = i; outcome = Reached (record { 0 = h }) }))
 exact_told s f bytes e ex i x node route =
     let ok : ParkOk (park_in f) = read_park_ok s f bytes e in
     let far : (at f.state i).dist < ceiling = path_reaches (sound ok) (exact_still ok ex).dist route in
     let r = exact_reaches (park_in f) f.state ok ex i node far in
-    (r.0, r.1, told s f e i node ∙ ap Told r.2)
+    (r.0, r.1, told s f e i node ∙ ap Ok r.2)

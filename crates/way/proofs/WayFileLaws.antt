@@ -1,6 +1,6 @@
 -- What Way answers, by the tests that led there; and the way over the slices of a file that was read is the way in its park.
 use Prim.Native.Nat.{ℕ, ◌+◌, ◌≤◌, ◌<◌}
-use Rattle.answers.specs.declared.WayAnswer as answer
+use Rattle.std.specs.Prelude.{Ok, Err}
 use Rattle.reader.proofs.ApartLaws.{park_here}
 use Rattle.way.specs.Way.{way_verdict, way_answer}
 use Rattle.reader.specs.Words.{column, little}
@@ -9,9 +9,8 @@ use Rattle.park.proofs.ParkLaws.{fine_sizes}
 use Rattle.park.proofs.RecordLaws.{length_cells}
 use Rattle.park.specs.Layout.{head_size, group_at, first_cell}
 use Rattle.park.specs.ParkFile.{park_in}
-use Rattle.answers.specs.Verdicts.{unless, ◌then◌}
+use Rattle.answers.specs.Verdicts.{fine, unless, ◌then◌}
 use Rattle.park.specs.Reading.{nodes_in, root_in, link_count, verdict_of, file_in}
-use Rattle.answers.specs.declared.refusal.Verdict.TheVariants.{Fine, Refused}
 use Rattle.answers.specs.declared.refusal.Refusal.TheVariants.{Node}
 use Rattle.answers.specs.declared.refusal.Refusal.{Refusal}
 use Rattle.rule.specs.Round.{Link, Cell, Park}
@@ -28,7 +27,7 @@ use mathlib.Core.List.{List}
 use mathlib.Core.Path.{◌≡◌, sym, ap, ap₂, ◌∙◌}
 use native.Mathlib.Omega.{arith}
 
-module _ (s : List ℕ) (bytes : Bytes s) (fine : verdict_of s ≡ Fine) where
+module _ (s : List ℕ) (bytes : Bytes s) (fine : verdict_of s ≡ fine) where
   abbrev links : List Link
   links = (file_in s).links
 
@@ -54,21 +53,21 @@ module _ (s : List ℕ) (bytes : Bytes s) (fine : verdict_of s ≡ Fine) where
       ∙ ap₂ (λ (p : Park) (t : List Cell). way.park_way p t i) (park_here s bytes fine) (cells_of_lem table))
 
 -- a file that is refused
-pub way_refused : (s : List ℕ) (i : ℕ) (r : Refusal) → verdict_of s ≡ Refused r → answer.TheVariants.Refused r ≡ way_answer s i
+pub way_refused : (s : List ℕ) (i : ℕ) (r : Refusal) → verdict_of s ≡ Err r → Err r ≡ way_answer s i
 unfolding way_answer way_verdict ◌then◌
 way_refused s i r e = simp e
 
 -- 0 is no node, and neither is a number above n
-module _ (s : List ℕ) (i : ℕ) (fine : verdict_of s ≡ Fine) where
-  pub way_no_node : i < 1 → answer.TheVariants.Refused Node ≡ way_answer s i
+module _ (s : List ℕ) (i : ℕ) (fine : verdict_of s ≡ fine) where
+  pub way_no_node : i < 1 → Err Node ≡ way_answer s i
   unfolding way_answer way_verdict unless ◌then◌
   way_no_node h = simp (fine, lt-leb 1 i h)
 
-  pub way_above : 1 ≤ i → nodes_in s < i → answer.TheVariants.Refused Node ≡ way_answer s i
+  pub way_above : 1 ≤ i → nodes_in s < i → Err Node ≡ way_answer s i
   unfolding way_answer way_verdict unless ◌then◌
   way_above h k = simp (fine, le-leb 1 i h, lt-leb i (nodes_in s) k)
 
   -- any other has a way
-  pub way_told : (w : WayOfNode) → 1 ≤ i → i ≤ nodes_in s → w ≡ way.park_way (park_in (file_in s)) (file_in s).state i → answer.TheVariants.Told w ≡ way_answer s i
+  pub way_told : (w : WayOfNode) → 1 ≤ i → i ≤ nodes_in s → w ≡ way.park_way (park_in (file_in s)) (file_in s).state i → Ok w ≡ way_answer s i
   unfolding way_answer way_verdict unless ◌then◌
   way_told w h k e = simp (fine, le-leb 1 i h, le-leb i (nodes_in s) k, e)

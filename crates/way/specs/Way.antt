@@ -1,11 +1,10 @@
 -- The way of a node, of document 01: where following stored parents leads.
 -- Nodes are numbered from 1, and 0 is no node; hop counts are in hops.
-use Rattle.std.specs.Prelude.{ℕ, zero, suc, min, cond, List, length, eqb, leb}
+use Rattle.std.specs.Prelude.{ℕ, zero, suc, min, cond, List, length, eqb, leb, Result, Ok, Err}
 use Rattle.rule.specs.Round.{Cell, Link, Park, at}
-use Rattle.answers.specs.Verdicts.{unless, ◌then◌, by_verdict}
-use Rattle.answers.specs.declared.WayAnswer as answer
+use Rattle.answers.specs.Verdicts.{Verdict, unless, ◌then◌, by_verdict}
 use Rattle.answers.specs.declared.refusal.Refusal.TheVariants.{Node}
-use Rattle.answers.specs.declared.refusal.Verdict.{Verdict}
+use Rattle.answers.specs.declared.refusal.Refusal.{Refusal}
 use Rattle.park.specs.ParkFile.{park_in}
 use Rattle.park.specs.Reading.{nodes_in, verdict_of, file_in}
 use Rattle.links.specs.Neighbours.{neighbour}
@@ -38,5 +37,5 @@ unfoldable pub way_verdict : List ℕ → ℕ → Verdict
 way_verdict s i = verdict_of s then unless (leb 1 i) Node then unless (leb i (nodes_in s)) Node
 
 -- "Way of a node: it gives the node asked about together with one of three outcomes", by the links and the stored parents of the file
-unfoldable pub way_answer : List ℕ → ℕ → answer.WayAnswer
-way_answer s i = by_verdict (way_verdict s i) (answer.TheVariants.Told (park_way (park_in (file_in s)) (file_in s).state i)) answer.TheVariants.Refused
+unfoldable pub way_answer : List ℕ → ℕ → Result WayOfNode Refusal
+way_answer s i = by_verdict (way_verdict s i) (Ok (park_way (park_in (file_in s)) (file_in s).state i)) Err

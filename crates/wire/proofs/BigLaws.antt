@@ -1,40 +1,21 @@
 -- The laws of big-endian numbers, over the width: written then read is the same, read then written is the same bytes.
 use Prim.Native.Nat.{ℕ, zero, suc, ◌+◌, ◌*◌, ◌/◌, ◌%◌, ◌^◌, ◌≤◌, ◌<◌}
-use mathlib.Core.Path.{◌≡◌, refl, sym, ap, ap₂, ◌∙◌}
+use mathlib.Core.Path.{◌≡◌, refl, sym, ap, ◌∙◌}
 use mathlib.Core.List.{List, [], ◌∷◌, ◌++◌, append_assoc, append-nil}
-use native.Mathlib.Nat.{add-zero, zero-add, pow-suc}
+use native.Mathlib.Nat.{add-zero, pow-suc}
 use native.Mathlib.Numerals.{add-one}
 use native.Mathlib.Omega.{arith}
-use lib.ListN.{length, get_or, set, take, drop, length-append, get_or-eq_default, get_or-append, length-drop}
-use lib.Seq.{sets, take-suc, get_or-drop, get_or-append-add, take_at, drop_at}
-use Rattle.wire.proofs.StoreLaws.{put_both}
+use lib.ListN.{length, get_or, take, drop, length-append, get_or-append, length-drop}
+use lib.Seq.{take-suc, get_or-drop, get_or-append-add, take_at, drop_at}
 use Rattle.wire.specs.Big.{Bytes, big, bytes_of}
 
--- a number that starts outside the list is 0
-pub big_out : (k : ℕ) (s : List ℕ) (i : ℕ) → length s ≤ i → big k s i ≡ 0
-unfolding big
-big_out zero s i h = refl
-big_out (suc k) s i h =
-    let low : get_or s (i + k) 0 ≡ 0 = get_or-eq_default s 0 (omega arith) in
-    simp (big_out k s i h, low)
-
-pub big_two : (s : List ℕ) (i : ℕ) → big 2 s i ≡ get_or s i 0 * 256 + get_or s (i + 1) 0
-unfolding big
-big_two s i = simp (add-zero, zero-add)
-
+-- a number of four bytes is two of two
 pub big_four : (s : List ℕ) (i : ℕ) → big 4 s i ≡ big 2 s i * 65536 + big 2 s (i + 2)
 unfolding big
 big_four s i =
     let e : i + 2 + 0 ≡ i + 2 = omega arith in
     let f : i + 2 + 1 ≡ i + 3 = omega arith in
     rw (e, f) (omega arith)
-
--- two bytes that stand one behind the other, and two halves
-pub read_two : (s : List ℕ) (i : ℕ) {high low : ℕ} → high ≡ get_or s i 0 → low ≡ get_or s (i + 1) 0 → high * 256 + low ≡ big 2 s i
-read_two s i h l = ap₂ (λ (x y : ℕ). x * 256 + y) h l ∙ sym (big_two s i)
-
-pub read_four : (s : List ℕ) (i : ℕ) {high low : ℕ} → high ≡ big 2 s i → low ≡ big 2 s (i + 2) → high * 65536 + low ≡ big 4 s i
-read_four s i h l = ap₂ (λ (x y : ℕ). x * 65536 + y) h l ∙ sym (big_four s i)
 
 -- each byte is below 256, so a number of k bytes is below 256 ^ k
 pub big_lt : (k : ℕ) (s : List ℕ) (i : ℕ) → Bytes s → big k s i < 256 ^ k
@@ -111,26 +92,3 @@ read_written (suc k) s i b h =
     let room : k < length (drop i s) = rw length-drop (omega arith) in
     let ih : bytes_of k (big k s i) ≡ take k (drop i s) = read_written k s i b (omega arith) in
     rw (q, m, ih) (sym (take-suc (drop i s) k 0 room ∙ ap (λ (x : ℕ). take k (drop i s) ++ (x ∷ [])) (get_or-drop i s k 0)))
-
-pub bytes_two : (x : ℕ) → bytes_of 2 x ≡ x / 256 % 256 ∷ (x % 256 ∷ [])
-unfolding bytes_of
-bytes_two x = refl
-
-pub bytes_four : (x : ℕ) → bytes_of 4 x ≡ bytes_of 2 (x / 65536) ++ bytes_of 2 (x % 65536)
-unfolding bytes_of
-bytes_four x =
-    let a : x / 256 / 256 / 256 % 256 ≡ x / 65536 / 256 % 256 = omega arith in
-    let b : x / 256 / 256 % 256 ≡ x / 65536 % 256 = omega arith in
-    let c : x / 256 % 256 ≡ x % 65536 / 256 % 256 = omega arith in
-    let d : x % 256 ≡ x % 65536 % 256 = omega arith in
-    rw (a, b, c, d)
-
-pub put_two : (l : List ℕ) (i x : ℕ) {m n : List ℕ} → m ≡ set l i (x / 256 % 256) → n ≡ set m (i + 1) (x % 256) → n ≡ sets l i (bytes_of 2 x)
-put_two l i x e f =
-    rw (bytes_two x) (put_both l i (i + 1) (x / 256 % 256 ∷ []) (x % 256 ∷ []) refl e f)
-
-pub put_four : (l : List ℕ) (i x : ℕ) {m n : List ℕ} → m ≡ sets l i (bytes_of 2 (x / 65536)) → n ≡ sets m (i + 2) (bytes_of 2 (x % 65536))
-    → n ≡ sets l i (bytes_of 4 x)
-put_four l i x e f =
-    let h : i + 2 ≡ i + length (bytes_of 2 (x / 65536)) = ap (λ (k : ℕ). i + k) (sym (length_bytes_of 2 (x / 65536))) in
-    rw (bytes_four x) (put_both l i (i + 2) (bytes_of 2 (x / 65536)) (bytes_of 2 (x % 65536)) h e f)

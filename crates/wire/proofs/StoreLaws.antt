@@ -1,12 +1,13 @@
--- The laws of stores of many bytes: one store outside, two that are one, and one byte after the other.
-use Prim.Native.Nat.{ℕ, suc, ◌+◌, ◌≤◌, ◌<◌}
+-- The laws of stores of many bytes: one store outside, two that are one, and one that the end of the list cuts off.
+use Prim.Native.Nat.{ℕ, suc, ◌+◌, ◌-◌, ◌≤◌, ◌<◌, min}
 use mathlib.Core.Path.{◌≡◌, refl, ap, ◌∙◌}
-use mathlib.Core.List.{List, [], ◌∷◌, ◌++◌}
+use mathlib.Core.List.{List, [], ◌∷◌, ◌++◌, append_assoc}
 use native.Mathlib.Nat.{add-zero}
-use native.Mathlib.Numerals.{add-one}
 use native.Mathlib.Omega.{arith}
-use lib.ListN.{length, get_or, set, drop}
-use lib.Seq.{sets, drop-cons, set_out}
+use lib.ListN.{length, set, take, drop, drop_of_length-le}
+use native.Mathlib.Decide.{dec_lt}
+use Rattle.std.proofs.lemmas.List.{take-append-drop}
+use lib.Seq.{sets, sets-eq, length-sets, length-take-le, drop-drop, set_out}
 
 -- a store outside the list changes nothing
 pub sets_out : (l : List ℕ) (i : ℕ) (vs : List ℕ) → length l ≤ i → sets l i vs ≡ l
@@ -28,10 +29,18 @@ put_then i xs e f = f ∙ ap (λ (x : List ℕ). sets x i xs) e
 pub put_both : (l : List ℕ) (i j : ℕ) (a b : List ℕ) {m n : List ℕ} → j ≡ i + length a → m ≡ sets l i a → n ≡ sets m j b → n ≡ sets l i (a ++ b)
 put_both l i j a b h e f = put_then j b e f ∙ ap (λ (k : ℕ). sets (sets l i a) k b) h ∙ sets_append l i a b
 
--- one byte of a run, and the rest
-pub bytes_turn : (whole l xs : List ℕ) (at i : ℕ) → i < length xs → sets l at (drop i xs) ≡ whole
-    → sets (set l at (get_or xs i 0)) (at + 1) (drop (i + 1) xs) ≡ whole
-bytes_turn whole l xs at i h e =
-    let f : drop i xs ≡ get_or xs i 0 ∷ drop (suc i) xs = drop-cons xs i 0 h in
-    let g : sets (set l at (get_or xs i 0)) (suc at) (drop (suc i) xs) ≡ whole = rw f at e in
-    rw (add-one at, add-one i) g
+-- as many bytes as there is room for, copied into the part of the list that starts at place i
+pub part_put : (l vs part : List ℕ) (i n : ℕ) → i ≤ length l → n ≡ min (length vs) (length l - i) → part ≡ take n vs
+    → take i l ++ (part ++ drop (i + n - i) (drop i l)) ≡ sets l i vs
+part_put l vs part i n h e p =
+    let m : length part ≡ n = ap length p ∙ length-take-le n vs (omega arith) in
+    let k : i + n - i ≡ length part = omega arith in
+    let here : sets l i part ≡ take i l ++ (part ++ drop (i + length part) l) =
+    sets-eq part l i (omega arith) ∙ append_assoc (take i l) part (drop (i + length part) l) in
+    let out : sets (sets l i part) (i + length part) (drop n vs) ≡ sets l i part = rest (dec_lt n (length vs)) m in
+    let all : part ++ drop n vs ≡ vs = rw p (take-append-drop n vs) in
+    rw (k, drop-drop, ← here, ← out) (sets_append l i part (drop n vs) ∙ ap (sets l i) all)
+  where
+    rest : Dec (n < length vs) → length part ≡ n → sets (sets l i part) (i + length part) (drop n vs) ≡ sets l i part
+    rest (yes f) m = sets_out (sets l i part) (i + length part) (drop n vs) (omega (arith, length-sets l i part))
+    rest (no f) m = let none : drop n vs ≡ [] = drop_of_length-le vs (omega arith) in rw none

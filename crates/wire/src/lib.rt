@@ -8,62 +8,43 @@ ghost use Rattle.std.specs.Prelude.{◌≡◌, ◌<◌};
 ghost use Rattle.std.proofs.lemmas.List.Edits.{sets};
 ghost use Rattle.wire.specs.Big.{big, bytes_of};
 
-// A 16-bit number as a count, in whatever it counts.
-pub fn wide(x: u16) -> usize
-    ensures { (result ≡ x) × (result < 65536) }
-{
-    x as usize
-}
+use bytes::{bytes_at, put_bytes};
 
 // The 16-bit number at a place, in bytes.
+#[tactic(auto, unfolding(crate::specs::Big::big))]
 pub fn big16(s: &[u8], place: usize) -> u16
     ensures { result ≡ big 2 s.now place }
 {
-    if s.len() <= place {
-        return 0;
-    }
-    let high = s[place] as u16;
-    let low = crate::bytes::byte_at(s, place + 1) as u16;
-    high * 256 + low
+    u16::from_be_bytes(bytes_at(s, place))
 }
 
 // The 32-bit number at a place, in bytes.
+#[tactic(auto, unfolding(crate::specs::Big::big))]
 pub fn big32(s: &[u8], place: usize) -> u32
     ensures { result ≡ big 4 s.now place }
 {
-    if s.len() <= place {
-        return 0;
-    }
-    let high = big16(s, place) as u32;
-    let low = big16(s, place + 2) as u32;
-    high * 65536 + low
+    u32::from_be_bytes(bytes_at(s, place))
 }
 
 // The 16-bit number at a place, in bytes, as a count.
 pub fn number_at(s: &[u8], place: usize) -> usize
     ensures { (result ≡ big 2 s.now place) × (result < 65536) }
 {
-    wide(big16(s, place))
+    usize::from(big16(s, place))
 }
 
 // Puts a 16-bit number at a place, in bytes.
+#[tactic(auto, unfolding(crate::specs::Big::bytes_of))]
 pub fn put16(s: &mut [u8], place: usize, x: u16)
     ensures { s.new ≡ sets s.old place (bytes_of 2 x) }
 {
-    if s.len() <= place {
-        return;
-    }
-    s[place] = (x / 256 % 256) as u8;
-    crate::bytes::put_byte(s, place + 1, (x % 256) as u8);
+    put_bytes(s, place, &u16::to_be_bytes(x));
 }
 
 // Puts a 32-bit number at a place, in bytes.
+#[tactic(auto, unfolding(crate::specs::Big::bytes_of))]
 pub fn put32(s: &mut [u8], place: usize, x: u32)
     ensures { s.new ≡ sets s.old place (bytes_of 4 x) }
 {
-    if s.len() <= place {
-        return;
-    }
-    put16(s, place, (x / 65536) as u16);
-    put16(s, place + 2, (x % 65536) as u16);
+    put_bytes(s, place, &u32::to_be_bytes(x));
 }

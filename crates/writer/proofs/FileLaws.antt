@@ -1,15 +1,15 @@
 -- The file that a park's numbers make is the park's file, and numbers of a wrong count are refused as 3 where their field starts.
 use Prim.Native.Nat.{ℕ, ◌+◌, ◌*◌, ◌%◌, ◌≤◌, ◌<◌}
-use Rattle.writer.proofs.MakeLaws.{made_right, made_wrong, length_numbers, links_right, links_few}
-use Rattle.writer.specs.Made.{numbers, flat, state_right, state_made, group_made, links_made, file_of}
+use Rattle.writer.proofs.MakeLaws.{made_right, made_wrong, length_numbers, links_few}
+use Rattle.writer.specs.Made.{numbers, flat, links_right, state_right, state_made, group_made, links_made, file_of}
 use Rattle.park.proofs.FieldLaws.{field_written, has_behind, length_refused}
 use Rattle.park.proofs.RoundTrip.{encode_read, head_few}
 use Rattle.measure.specs.Measure.{most_links}
 use Rattle.park.specs.Layout.{group_at, state_at}
 use Rattle.park.specs.ParkFile.{ParkFile, ParkFileOk, field, link_bytes, state_bytes, encode}
-use Rattle.answers.specs.Verdicts.{◌then◌}
+use Rattle.answers.specs.Verdicts.{fine, ◌then◌}
+use Rattle.std.specs.Prelude.{Err}
 use Rattle.park.specs.Reading.{length_at, nodes_in, link_count, head_in, links_in, group_in, state_in, verdict_of, read_park, park}
-use Rattle.answers.specs.declared.refusal.Verdict.TheVariants.{Fine, Refused}
 use Rattle.answers.specs.declared.refusal.Refusal.TheVariants.{Length}
 use Rattle.rule.specs.Round.{Link, Cell}
 use Rattle.table.specs.Slices.{cells_of}
@@ -82,7 +82,7 @@ module _ (n root : ℕ) (links group ds ps ms : List ℕ) where
       (simp (length-append, length_bytes_of))
 
   -- "more than 1,024 links .. is 3 at the place where that field starts"
-  pub links_wrong : links_right links ≡ false → head_in s ≡ Fine → verdict_of s ≡ Refused (Length 7)
+  pub links_wrong : links_right links ≡ false → head_in s ≡ fine → verdict_of s ≡ Err (Length 7)
   unfolding verdict_of links_in links_made ◌then◌
   links_wrong w h =
       let e = made_wrong 2 (links_right links) (numbers links) (group_made group (state_made n ds ps ms)) w in
@@ -110,7 +110,7 @@ module _ (n root : ℕ) (links group ds ps ms : List ℕ) where
     six = omega (arith, said, eqb-true (length links % 3) 0 (both_true (eqb (length links % 3) 0) (leb (length links) (3 * most_links)) right).0)
 
     -- "a group not of 32 bytes"
-    pub group_wrong : eqb (length group) 32 ≡ false → head_in s ≡ Fine → links_in s ≡ Fine → verdict_of s ≡ Refused (Length (10 + 2 * length links))
+    pub group_wrong : eqb (length group) 32 ≡ false → head_in s ≡ fine → links_in s ≡ fine → verdict_of s ≡ Err (Length (10 + 2 * length links))
     unfolding verdict_of group_in group_made ◌then◌
     group_wrong w h l =
         let e = made_wrong 3 (eqb (length group) 32) group (state_made n ds ps ms) w in
@@ -119,8 +119,8 @@ module _ (n root : ℕ) (links group ds ps ms : List ℕ) where
         simp (h, l, place) (simp r)
 
     -- "or a state not of n nodes"
-    pub state_wrong : eqb (length group) 32 ≡ true → state_right n ds ps ms ≡ false → head_in s ≡ Fine → links_in s ≡ Fine → group_in s ≡ Fine
-        → verdict_of s ≡ Refused (Length (45 + 2 * length links))
+    pub state_wrong : eqb (length group) 32 ≡ true → state_right n ds ps ms ≡ false → head_in s ≡ fine → links_in s ≡ fine → group_in s ≡ fine
+        → verdict_of s ≡ Err (Length (45 + 2 * length links))
     unfolding verdict_of state_in group_made state_made ◌then◌
     state_wrong g w h l k =
         let few : 7 * nodes_in s < 65535 = omega (arith, head_few s h) in

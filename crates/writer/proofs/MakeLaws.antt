@@ -1,7 +1,7 @@
 -- Putting a field behind another: the stores of head, body and rest are one store of them all.
-use Prim.Native.Nat.{ℕ, suc, ◌+◌, ◌*◌, ◌%◌, ◌≤◌, ◌<◌}
+use Prim.Native.Nat.{ℕ, suc, ◌+◌, ◌*◌, ◌/◌, ◌%◌, ◌≤◌, ◌<◌}
 use mathlib.Core.Path.{◌≡◌, refl, sym, ap, ap₂, ◌∙◌}
-use mathlib.Core.Bool.{Bool, true, false, ◌&&◌, cond}
+use mathlib.Core.Bool.{Bool, true, false, ◌&&◌}
 use mathlib.Core.List.{List, [], ◌∷◌, ◌++◌}
 use native.Mathlib.Nat.{add-zero}
 use native.Mathlib.Numerals.{add-one}
@@ -19,17 +19,19 @@ use Rattle.park.proofs.FieldLaws.{length_field}
 use Rattle.park.proofs.RecordLaws.{length_state_bytes}
 use Rattle.park.proofs.StateLaws.{length_cells_of}
 use Rattle.table.proofs.TestLaws.{both_true}
-use Rattle.writer.specs.Made.{numbers, made, state_right, state_made, group_made, links_made, file_of}
+use Rattle.writer.specs.Made.{numbers, made, links_right, state_right, state_made, group_made, links_made, file_of}
 
 -- one number of a run, and the rest
-pub numbers_turn : (whole l xs : List ℕ) (at i : ℕ) → i < length xs → sets l at (numbers (drop i xs)) ≡ whole
-    → sets (sets l at (bytes_of 2 (get_or xs i 0))) (at + 2) (numbers (drop (i + 1) xs)) ≡ whole
+pub numbers_turn : (whole l xs : List ℕ) (i : ℕ) → i < length xs → sets l (10 + 2 * i) (numbers (drop i xs)) ≡ whole
+    → sets (sets l (10 + 2 * i) (bytes_of 2 (get_or xs i 0))) (10 + 2 * (i + 1)) (numbers (drop (i + 1) xs)) ≡ whole
 unfolding numbers
-numbers_turn whole l xs at i h e =
+numbers_turn whole l xs i h e =
     let x : ℕ = get_or xs i 0 in
+    let at : ℕ = 10 + 2 * i in
     let f : drop i xs ≡ x ∷ drop (suc i) xs = drop-cons xs i 0 h in
     let g : sets l at (bytes_of 2 x ++ numbers (drop (suc i) xs)) ≡ whole = rw f at e in
-    ap₂ (λ (k j : ℕ). sets (sets l at (bytes_of 2 x)) (at + k) (numbers (drop j xs))) (sym (length_bytes_of 2 x)) (add-one i)
+    let next : 10 + 2 * (i + 1) ≡ at + length (bytes_of 2 x) = omega (arith, length_bytes_of 2 x) in
+    ap₂ (λ (k j : ℕ). sets (sets l at (bytes_of 2 x)) k (numbers (drop j xs))) next (add-one i)
     ∙ sets_append l at (bytes_of 2 x) (numbers (drop (suc i) xs)) ∙ g
 
 pub numbers_none : (xs : List ℕ) (i : ℕ) → length xs ≤ i → numbers (drop i xs) ≡ []
@@ -65,11 +67,11 @@ unfolding made bytes_of
 made_wrong tag right body rest e = rw e
 
 -- where a field goes that is not of the right size: m is what its head leaves of l
-pub made_stop : (l : List ℕ) (at tag : ℕ) (right : Bool) (body rest : List ℕ) {m : List ℕ} → right ≡ false → m ≡ sets l at (tag ∷ bytes_of 2 65535)
+pub made_stop : (l : List ℕ) (at tag : ℕ) (right : Bool) (body rest : List ℕ) {m : List ℕ} → (right ≡ true → ⊥) → m ≡ sets l at (tag ∷ bytes_of 2 65535)
     → (m ≡ sets l at (made tag right body rest)) × (at + 3 ≡ at + length (made tag right body rest))
-made_stop l at tag right body rest e p =
-    let w = made_wrong tag right body rest e in
-    (p ∙ ap (sets l at) (sym w), ap (λ (k : ℕ). at + k) (sym (ap length w ∙ ap suc (length_bytes_of 2 65535))))
+unfolding made bytes_of
+made_stop l at tag true body rest h p = absurd (h refl)
+made_stop l at tag false body rest h p = (p, refl)
 
 -- where one goes that is, with those behind it, which start at `next`: its head leaves m, its body n, and they o, up to `end`
 pub made_go : (l : List ℕ) (at tag : ℕ) (right : Bool) (body rest : List ℕ) (size next : ℕ) {m n o : List ℕ} {end : ℕ}
@@ -81,15 +83,6 @@ made_go l at tag right body rest size next e f g x y z =
     let a = field_put l at tag body rest size f in
     let k = length_made tag body rest in
     (put_then next rest (put_then (at + 3) body x y) z.0 ∙ rw (w, g) a, z.1 ∙ rw (w, k, g) (omega arith))
-
--- a length of 65,535 says that the field is not of the right size, and any other that it is
-said_wrong : (right : Bool) (k size : ℕ) → (right ≡ true → k < 65535) → size ≡ cond right k 65535 → size ≡ 65535 → right ≡ false
-said_wrong true k size h e w = absurd (omega (arith, h refl))
-said_wrong false k size h e w = refl
-
-said_right : (right : Bool) (k size : ℕ) → size ≡ cond right k 65535 → (size ≡ 65535 → ⊥) → (right ≡ true) × (size ≡ k)
-said_right true k size e w = (refl, e)
-said_right false k size e w = absurd (w e)
 
 -- a state that is right has 7 bytes a node
 pub state_length : (n : ℕ) (ds ps ms : List ℕ) → state_right n ds ps ms ≡ true → length (state_bytes (cells_of ds ps ms)) ≡ 7 * n
@@ -104,22 +97,20 @@ state_length n ds ps ms e =
 pub state_few : (n : ℕ) (ds ps ms : List ℕ) → state_right n ds ps ms ≡ true → n ≤ 256
 state_few n ds ps ms e = leb-true _ _ (both_true (leb n 256) (eqb (length ds) n && (eqb (length ps) n && eqb (length ms) n)) e).0
 
-module _ (l : List ℕ) (at n : ℕ) (ds ps ms : List ℕ) (size : ℕ) (said : size ≡ cond (state_right n ds ps ms) (7 * n) 65535) where
-  pub state_stop : {m : List ℕ} → size ≡ 65535 → m ≡ sets l at (4 ∷ bytes_of 2 size)
+module _ (l : List ℕ) (at n : ℕ) (ds ps ms : List ℕ) where
+  pub state_stop : {m : List ℕ} → (state_right n ds ps ms ≡ true → ⊥) → m ≡ sets l at (4 ∷ bytes_of 2 65535)
       → (m ≡ sets l at (state_made n ds ps ms)) × (at + 3 ≡ at + length (state_made n ds ps ms))
   unfolding state_made
-  state_stop w p =
-      let few : state_right n ds ps ms ≡ true → 7 * n < 65535 = λ e. omega (arith, state_few n ds ps ms e) in
-      made_stop l at 4 (state_right n ds ps ms) (state_bytes (cells_of ds ps ms)) [] (said_wrong (state_right n ds ps ms) (7 * n) size few said w) (rw w at p)
+  state_stop = made_stop l at 4 (state_right n ds ps ms) (state_bytes (cells_of ds ps ms)) []
 
-  pub state_go : {m o : List ℕ} → (size ≡ 65535 → ⊥) → m ≡ sets l at (4 ∷ bytes_of 2 size) → o ≡ sets m (at + 3) (state_bytes (cells_of ds ps ms))
-      → (o ≡ sets l at (state_made n ds ps ms)) × (at + 3 + size ≡ at + length (state_made n ds ps ms))
+  pub state_go : (size : ℕ) {m o : List ℕ} → (state_right n ds ps ms ≡ true) × (size ≡ 7 * n)
+      → m ≡ sets l at (4 ∷ bytes_of 2 size) → o ≡ sets m (at + 3) (state_bytes (cells_of ds ps ms))
+      → (o ≡ sets l at (state_made n ds ps ms)) × (at + 3 + 7 * n ≡ at + length (state_made n ds ps ms))
   unfolding state_made
-  state_go w p q =
+  state_go size r p q =
       let body : List ℕ = state_bytes (cells_of ds ps ms) in
-      let r = said_right (state_right n ds ps ms) (7 * n) size said w in
-      let k : size ≡ length body = r.1 ∙ sym (state_length n ds ps ms r.0) in
-      made_go l at 4 (state_right n ds ps ms) body [] size (at + 3 + size) r.0 k (ap (λ (j : ℕ). at + 3 + j) k) p q (refl, sym (add-zero (at + 3 + size)))
+      let k = state_length n ds ps ms r.0 in
+      made_go l at 4 (state_right n ds ps ms) body [] size (at + 3 + 7 * n) r.0 (r.1 ∙ sym k) (omega (arith, k)) p q (refl, sym (add-zero (at + 3 + 7 * n)))
 
 pub group_go : (l : List ℕ) (at : ℕ) (group rest : List ℕ) {m n o : List ℕ} {end : ℕ} → length group ≡ 32
     → m ≡ sets l at (3 ∷ bytes_of 2 32) → n ≡ sets m (at + 3) group → (o ≡ sets n (at + 35) rest) × (end ≡ at + 35 + length rest)
@@ -143,29 +134,24 @@ group_cut group rest e = made_wrong 3 (eqb (length group) 32) group rest (ne_eqb
 pub cut_length : (group rest : List ℕ) → (length group ≡ 32 → ⊥) → length (group_made group rest) ≡ 3
 cut_length group rest e = ap length (group_cut group rest e) ∙ ap suc (length_bytes_of 2 65535)
 
--- the test of `links_made`: three numbers to a link, and at most 1,024 links
-abbrev pub links_right : List ℕ → Bool
-links_right links = eqb (length links % 3) 0 && leb (length links) 3072
-
 pub links_few : (links : List ℕ) → links_right links ≡ true → length links ≤ 3072
 links_few links e = leb-true _ _ (both_true (eqb (length links % 3) 0) (leb (length links) 3072) e).1
 
-module _ (l links rest : List ℕ) (size : ℕ) (said : size ≡ cond (links_right links) (2 * length links) 65535) where
-  pub links_stop : {m : List ℕ} → size ≡ 65535 → m ≡ sets l 7 (2 ∷ bytes_of 2 size)
+module _ (l links rest : List ℕ) where
+  pub links_stop : {m : List ℕ} → (links_right links ≡ true → ⊥) → m ≡ sets l 7 (2 ∷ bytes_of 2 65535)
       → (m ≡ sets l 7 (links_made links rest)) × (10 ≡ 7 + length (links_made links rest))
   unfolding links_made
-  links_stop w p =
-      let few : links_right links ≡ true → 2 * length links < 65535 = λ e. omega (arith, links_few links e) in
-      made_stop l 7 2 (links_right links) (numbers links) rest (said_wrong (links_right links) (2 * length links) size few said w) (rw w at p)
+  links_stop = made_stop l 7 2 (links_right links) (numbers links) rest
 
-  pub links_go : {m n o : List ℕ} {end : ℕ} → (size ≡ 65535 → ⊥)
-      → m ≡ sets l 7 (2 ∷ bytes_of 2 size) → n ≡ sets m 10 (numbers links) → (o ≡ sets n (10 + size) rest) × (end ≡ 10 + size + length rest)
+  pub links_go : (count : ℕ) {m n o : List ℕ} {end : ℕ} → (links_right links ≡ true) × (count ≡ length links / 3)
+      → m ≡ sets l 7 (2 ∷ bytes_of 2 (2 * length links)) → n ≡ sets m 10 (numbers links)
+      → (o ≡ sets n (10 + 6 * count) rest) × (end ≡ 10 + 6 * count + length rest)
       → (o ≡ sets l 7 (links_made links rest)) × (end ≡ 7 + length (links_made links rest))
   unfolding links_made
-  links_go w =
-      let r = said_right (links_right links) (2 * length links) size said w in
-      let k : size ≡ length (numbers links) = r.1 ∙ sym (length_numbers links) in
-      made_go l 7 2 (links_right links) (numbers links) rest size (10 + size) r.0 k (ap (λ (j : ℕ). 10 + j) k)
+  links_go count r =
+      let third = eqb-true _ _ (both_true (eqb (length links % 3) 0) (leb (length links) 3072) r.0).0 in
+      let k = length_numbers links in
+      made_go l 7 2 (links_right links) (numbers links) rest (2 * length links) (10 + 6 * count) r.0 (sym k) (omega (arith, k, third, r.1))
 
 pub length_file : (n root : ℕ) (rest : List ℕ) → 7 + length rest ≡ length (field 1 (bytes_of 2 n ++ bytes_of 2 root) ++ rest)
 length_file n root rest = simp (length-append, length_field, length_bytes_of)

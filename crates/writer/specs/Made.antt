@@ -34,9 +34,12 @@ state_made n dists parents marks = made 4 (state_right n dists parents marks) (s
 unfoldable pub group_made : List ℕ → List ℕ → List ℕ
 group_made group rest = made 3 (eqb (length group) group_size) group rest
 
--- "more than 1,024 links"
+-- "more than 1,024 links"; three numbers to a link
+abbrev pub links_right : List ℕ → Bool
+links_right links = eqb (length links % 3) 0 && leb (length links) (3 * most_links)
+
 unfoldable pub links_made : List ℕ → List ℕ → List ℕ
-links_made links rest = made 2 (eqb (length links % 3) 0 && leb (length links) (3 * most_links)) (numbers links) rest
+links_made links rest = made 2 (links_right links) (numbers links) rest
 
 -- the file that the numbers would make
 unfoldable pub file_of : ℕ → ℕ → List ℕ → List ℕ → List ℕ → List ℕ → List ℕ → List ℕ

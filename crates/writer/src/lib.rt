@@ -9,9 +9,10 @@ ghost use Rattle.writer.specs.Made.{file_of};
 ghost use Rattle.area.specs.Area.{area_with};
 ghost use Rattle.writer.specs.Write.{write_verdict, write_of};
 
-use answers::refusal::Verdict;
-use answers::{ReadAnswer, WriteAnswer};
+use answers::Written;
+use answers::refusal::Refusal;
 use park::layout::LARGEST;
+use table::Table;
 
 // Writes a park given by its numbers: n nodes, the root, the links (three numbers a link: lower node, higher node, cost
 // in cost units), the 32 bytes of the group, and for each node its distance (in cost units), parent and mark.
@@ -25,7 +26,7 @@ pub fn write(
     marks: &[u8],
     area: &mut [u8],
     place: usize,
-) -> WriteAnswer
+) -> Result<Written, Refusal>
     ensures answered { let file : List ℕ = file_of nodes root links.now group.now
         dists.now parents.now marks.now in
         result ≡ write_of file (length area.old) place }
@@ -35,14 +36,20 @@ pub fn write(
         area.new ≡ area_with (write_verdict file (length old) place) file place old }
 {
     let mut made = [0u8; LARGEST];
-    let size = crate::made::make(&mut made, nodes, root, links, group, dists, parents, marks);
-    let found = reader::read(&made[..size]);
-    if let ReadAnswer::Refused(r) = found {
-        return WriteAnswer::Refused(r);
-    }
-    let put = area::put_file(&made[..size], area, place);
-    match put {
-        Verdict::Refused(r) => WriteAnswer::Refused(r),
-        Verdict::Fine => WriteAnswer::Done(size),
-    }
+    let numbers = made::Numbers {
+        nodes,
+        root,
+        links,
+        group,
+        table: Table {
+            dists,
+            parents,
+            marks,
+        },
+    };
+    let size = numbers.make(&mut made);
+    let file = &made[..size];
+    reader::read(file)?;
+    area::put_file(file, area, place)?;
+    Ok(Written(size))
 }

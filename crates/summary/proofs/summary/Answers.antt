@@ -1,18 +1,14 @@
 -- The answer is the reading's, with the counts of a file that is not refused.
 use Rattle.std.proofs.Common.{sym}
-use Rattle.park.proofs.CheckedLaws.{head_found, refusal_found}
+use Rattle.answers.proofs.VerdictLaws.{exit}
+use Rattle.park.proofs.CheckedLaws.{refusal_found}
 use Rattle.summary.specs.Summary.{summary_answer}
 use Rattle.summary.proofs.summary.Goals as goal
 
-pub counts_in-requires : goal.counts_in-requires
-counts_in-requires c = head_found _ _ (sym c.in-Park.ensures)
-
-pub returns-in-Refused : goal.returns-in-Refused
+pub returns-in_err-read : goal.returns-in_err-read
 unfolding summary_answer
-returns-in-Refused c = simp (refusal_found _ _ (sym c.in-Refused.ensures))
+returns-in_err-read c = exit c.from_residual.ensures.1 (simp (refusal_found _ _ c.in_err-read.ensures))
 
-pub returns-in-Park : goal.returns-in-Park
+pub returns : goal.returns
 unfolding summary_answer
-returns-in-Park c =
-    let read = head_found _ _ (sym c.in-Park.ensures) in
-    simp (read.fine, sym c.counts_in.ensures)
+returns c = rw (← c.in_ok-read.ensures) (simp (c.in_ok-read.read.read_as.fine, sym c.counts_in.ensures))

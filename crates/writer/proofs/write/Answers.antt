@@ -1,8 +1,10 @@
 -- The file is made in the array, checked there, and put into the area if there is room.
 use Rattle.std.proofs.Common.{sym, ap, ◌∙◌}
+use Rattle.answers.proofs.VerdictLaws.{exit}
 use Rattle.park.specs.Reading.{verdict_of}
 use Rattle.park.proofs.CheckedLaws.{head_found, refusal_found}
 use Rattle.writer.specs.Made.{file_of}
+use Rattle.writer.specs.Write.{write_of}
 use Rattle.writer.proofs.MakeLaws.{file_small}
 use Rattle.writer.proofs.WriteLaws.{Held, held, write_refused, write_room}
 use Rattle.writer.proofs.write.Goals as goal
@@ -20,33 +22,29 @@ made c =
 pub slice_bounds-made-end : goal.slice_bounds-made-end
 slice_bounds-made-end c = (made (goal.at.slice_bounds-made-end c).After-make-size).room
 
-pub slice_bounds-read-end : goal.slice_bounds-read-end
-slice_bounds-read-end c = (made (goal.at.slice_bounds-read-end c).After-make-size).count
+pub slice_bounds-file-end : goal.slice_bounds-file-end
+slice_bounds-file-end c = (made (goal.at.slice_bounds-file-end c).After-make-size).count
 
-pub slice_bounds-made-end-2 : goal.slice_bounds-made-end-2
-slice_bounds-made-end-2 c = (made (goal.at.slice_bounds-made-end-2 c).After-make-size).room
+pub returns-in_err-read : goal.returns-in_err-read
+returns-in_err-read c =
+    let h = made (goal.at.returns-in_err-read c).After-make-size in
+    let w = write_refused _ _ _ _ (ap verdict_of (sym h.front) ∙ refusal_found _ _ (sym c.in_err-read.ensures)) in
+    record { answered = exit c.from_residual.ensures.1 w.0; written = w.1 }
 
-pub slice_bounds-put_file-end : goal.slice_bounds-put_file-end
-slice_bounds-put_file-end c = (made (goal.at.slice_bounds-put_file-end c).After-make-size).count
+pub returns-in_err-put_file : goal.returns-in_err-put_file
+unfolding write_of
+returns-in_err-put_file c =
+    let h = made (goal.at.returns-in_err-put_file c).After-make-size in
+    let fine = ap verdict_of (sym h.front) ∙ (head_found _ _ (sym c.in_ok-read.ensures)).fine in
+    let put = c.in_err-put_file.ensures.put in
+    let w = write_room _ _ _ c.put_file.new.area _ _ h.front fine put.0 put.1 in
+    record { answered = exit c.from_residual-in_err-put_file.ensures.1 (simp (sym w.0)); written = w.1 }
 
-pub returns-in-Refused : goal.returns-in-Refused
-returns-in-Refused c =
-    let h = made (goal.at.returns-in-Refused c).After-make-size in
-    let w = write_refused _ _ _ 0 _ (ap verdict_of (sym h.front) ∙ refusal_found _ _ (sym c.read-found.ensures ∙ c.in-Refused.is)) in
-    record { answered = w.0; written = w.1 }
-
-pub returns-in-Refused-put : goal.returns-in-Refused-put
-returns-in-Refused-put c =
-    let h = made (goal.at.returns-in-Refused-put c).After-make-size in
-    let fine = ap verdict_of (sym h.front) ∙ (head_found _ _ (sym c.read-found.ensures ∙ c.in_default.is)).fine in
-    let put = c.put_file-put.ensures.put in
-    let w = write_room _ _ _ c.put_file-put.new.area _ _ c.put_file-put.result _ h.front fine put.0 put.1 h.said c.in-Refused-put.is in
-    record { answered = w.0; written = w.1 }
-
-pub returns-in-Fine : goal.returns-in-Fine
-returns-in-Fine c =
-    let h = made (goal.at.returns-in-Fine c).After-make-size in
-    let fine = ap verdict_of (sym h.front) ∙ (head_found _ _ (sym c.read-found.ensures ∙ c.in_default.is)).fine in
-    let put = c.put_file-put.ensures.put in
-    let w = write_room _ _ _ c.put_file-put.new.area _ _ c.put_file-put.result _ h.front fine put.0 put.1 h.said c.in-Fine.is in
-    record { answered = w.0; written = w.1 }
+pub returns : goal.returns
+unfolding write_of
+returns c =
+    let h = made (goal.at.returns c).After-make-size in
+    let fine = ap verdict_of (sym h.front) ∙ (head_found _ _ (sym c.in_ok-read.ensures)).fine in
+    let put = c.in_ok-put_file.ensures.put in
+    let w = write_room _ _ _ c.put_file.new.area _ _ h.front fine put.0 put.1 in
+    record { answered = simp (sym w.0, h.said); written = w.1 }

@@ -4,10 +4,7 @@ use Rattle.group.specs.Group.{member_in}
 use Rattle.paths.specs.Walk.{walked_from}
 use Rattle.paths.proofs.marks.walk_members.Given as goal
 
-abbrev pub invariant-loop-at : goal.invariant-loop-at
-invariant-loop-at l =
-    walked_from (member_in 64 l.words) l.parents (length l.parents - l.at) (l.at + 1) l.marks
+abbrev pub invariant-loop-node : goal.invariant-loop-node
+invariant-loop-node l =
+    walked_from (member_in 64 l.words) l.parents (length l.parents + 1 - l.node) l.node l.marks
     ≡ walked_from (member_in 64 l.words) l.parents (length l.parents) 1 l.fn.marks
-
-abbrev pub decreases-loop-at : goal.decreases-loop-at
-decreases-loop-at l = length l.parents - l.at

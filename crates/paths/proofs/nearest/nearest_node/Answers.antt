@@ -1,12 +1,15 @@
--- Each turn takes one node off the search.
-use Rattle.paths.proofs.SearchLaws.{nearest_start, nearest_next, nearest_end}
+-- The chain goes over the numbers of nodes that are not settled.
+use Rattle.std.proofs.Common.{rules}
+use Rattle.std.proofs.lemmas.Iterator.Consumers.{YieldsList-at, YieldsList-from_filter}
+use borrow.Author.Tests.{tests}
+use Rattle.paths.specs.Nearest.{Work}
+use Rattle.paths.proofs.SearchLaws.{waits, numbers, picked}
 use Rattle.paths.proofs.nearest.nearest_node.Goals as goal
 
-pub loop-at-init : goal.loop-at-init
-loop-at-init c = nearest_start _
-
-pub loop-at-preserved : goal.loop-at-preserved
-loop-at-preserved c = nearest_next _ _ _ _ c.loop-at-test.true _ _ c.loop-at.invariant c.closer_of-best.ensures
-
 pub returns : goal.returns
-returns c = nearest_end _ _ _ _ _ c.loop-at.invariant c.loop-at-test.false
+returns c =
+    let w : Work = record { dists = c.args.dists.now; done = c.args.done.now } in
+    picked _ _ _ w (λ x k q h. search (rules, tests)) _ _ c.min_by_key.ensures.ran
+    (YieldsList-from_filter _ (waits w)
+    (YieldsList-at c.filter.ensures.source (numbers _ _ c.new.ensures.start c.new.ensures.end c.new.ensures.exhausted))
+    c.filter.ensures.closure (λ x b q h. search (rules, tests)))

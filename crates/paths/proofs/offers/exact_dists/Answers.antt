@@ -3,20 +3,20 @@ use Rattle.std.proofs.Common.{◌≡◌, ℕ, ◌≤◌, min, length, take, sym,
 use borrow.Author.Rules.{rules}
 use Rattle.std.proofs.lemmas.List.Edits.{sets}
 use Rattle.measure.specs.Measure.{most_nodes}
-use Rattle.table.specs.Slices.{links_of}
+use Rattle.table.specs.Lent.{links_in}
 use Rattle.table.proofs.PartLaws.{part, sets_front}
 use Rattle.paths.specs.Offers.{dists_from}
 use Rattle.paths.proofs.offers.exact_dists.Goals as goal
 
 pub returns : goal.returns
 returns c =
-    let n : ℕ = c.shorter-n.result in
-    let room : n ≤ length c.args.dists.now = omega (arith, c.shorter-n.ensures) in
-    let few : length (take n c.args.dists.now) ≡ min most_nodes (length c.args.dists.now) = sym (part _ c.args.dists.now room) ∙ c.shorter-n.ensures in
+    let n : ℕ = c.min-n.result in
+    let room : n ≤ length c.args.dists.now = omega (arith, c.min-n.ensures) in
+    let few : length (take n c.args.dists.now) ≡ min most_nodes (length c.args.dists.now) = sym (part _ c.args.dists.now room) ∙ c.min-n.ensures in
     let long : length c.find_dists.new.dists ≡ length (take n c.args.dists.now) = search rules in
     record {
       found =
           sym (sets_front c.args.dists.now c.find_dists.new.dists n (long ∙ sym (part _ c.args.dists.now room)) room)
           ∙ ap (sets c.args.dists.now 0)
-          (c.find_dists.ensures ∙ ap (λ (k : ℕ). dists_from k c.args.root (links_of c.args.lows.now c.args.highs.now c.args.costs.now)) few);
+          (c.find_dists.ensures ∙ ap (λ (k : ℕ). dists_from k c.args.root (links_in c.args.links.now)) few);
     }

@@ -1,9 +1,7 @@
 -- The distances are made ready and every node is settled.
-use Rattle.table.specs.Slices.{links_of}
+use Rattle.table.specs.Lent.{links_in}
 use Rattle.paths.proofs.TurnLaws.{dists_found}
 use Rattle.paths.proofs.offers.find_dists.Goals as goal
 
 pub returns : goal.returns
-returns c =
-    dists_found (links_of c.args.lows.now c.args.highs.now c.args.costs.now) _ _ c.requires
-    _ c.start.ensures _ c.settle_nodes.ensures.nearer
+returns c = dists_found (links_in c.args.links.now) _ _ c.requires _ c.start.ensures _ c.settle_nodes.ensures.nearer

@@ -1,26 +1,21 @@
-use Rattle.std.proofs.Common.{◌<◌, ◌≤◌, ap, arith}
-use Rattle.table.specs.Slices.{dists_of, parents_of, marks_of}
-use Rattle.reader.proofs.FillLaws.{filling_next, filling_all, cells_next, cells_end}
+use Rattle.std.proofs.Common.{refl}
+use Rattle.rule.specs.Round.{Cell}
+use Rattle.park.specs.Layout.{first_cell}
+use Rattle.park.specs.Reading.{cells_read}
+use Rattle.reader.proofs.FillLaws.{cell_turn}
 use Rattle.reader.proofs.apart.take_state.Goals as goal
+
+pub loop-i-init : goal.loop-i-init
+unfolding cells_read
+loop-i-init c = (refl, refl, refl)
 
 pub loop-i-preserved : goal.loop-i-preserved
 loop-i-preserved c =
     let l = c.loop-i in
-    let a = c.args in
-    let turn : l.i < a.nodes = omega (arith, c.loop-i-test.true, c.wide-count.ensures.0) in
-    let next = cells_next a.file.now l.at a.nodes l.i turn in (
-      filling_next _ _ _ _ l.invariant.0 (ap dists_of next) c.dist.ensures c.set32.ensures,
-      filling_next _ _ _ _ l.invariant.1 (ap parents_of next) c.parent.ensures c.set16.ensures,
-      filling_next _ _ _ _ l.invariant.2 (ap marks_of next) c.mark.ensures c.put_byte.ensures,
-      omega (arith, l.invariant.3),
+    let s = c.args.file.now in
+    let first = first_cell c.args.links in
+    let at = c.first_cell-first.ensures in (
+      cell_turn s (λ (k : Cell). k.dist) first l.i _ _ _ _ l.invariant.0 (rw at at c.read-cell.ensures.dist) c.put_at.ensures,
+      cell_turn s (λ (k : Cell). k.parent) first l.i _ _ _ _ l.invariant.1 (rw at at c.read-cell.ensures.parent) c.put_at-in-loop-i.ensures,
+      cell_turn s (λ (k : Cell). k.mark) first l.i _ _ _ _ l.invariant.2 (rw at at c.read-cell.ensures.mark) c.put_at-in-loop-i-2.ensures,
     )
-
-pub returns : goal.returns
-returns c =
-    let l = c.loop-i in
-    let a = c.args in
-    let over : a.nodes ≤ l.i = omega (arith, c.loop-i-test.false, c.wide-count.ensures.0) in
-    let end = cells_end a.file.now l.at a.nodes l.i over in
-    record {
-      taken = (filling_all l.invariant.0 (ap dists_of end), filling_all l.invariant.1 (ap parents_of end), filling_all l.invariant.2 (ap marks_of end));
-    }

@@ -1,10 +1,10 @@
--- Each test of the code is the next test of the definition.
+-- The tests of the code are the definition's, in its order.
 use Rattle.std.proofs.Common.{sym, ◌∙◌, ◌≡◌, ◌+◌, ◌%◌, ◌≤◌, ℕ, List, length, get_or, leb, eqb}
 use Rattle.park.specs.Reading.{field_at, length_at}
-use Rattle.answers.specs.Verdicts.{unless, ◌then◌}
-use Rattle.answers.specs.declared.refusal.Verdict.{Verdict}
+use Rattle.answers.specs.Verdicts.{Verdict, unless, ◌then◌}
 use Rattle.answers.specs.declared.refusal.Refusal.TheVariants.{Length, Short}
 use Rattle.std.proofs.lemmas.Bool.{lt-leb, le-leb, eq-eqb, ne_eqb}
+use Rattle.reader.proofs.fields.field.Goals.{then-length-step-ne0-via-then-length-step-ne0, then-length-step-ne0-via-else-length-step-ne0+then-length-low, then-length-step-ne0-via-else-length-step-ne0+else-length-low+then-high-length}
 use Rattle.reader.proofs.fields.field.Goals as goal
 
 -- the tests of the length, once it is read
@@ -28,34 +28,28 @@ returns-then-file-at c = simp (lt-leb _ _ c.if-file-at.true)
 pub returns-then-byte_at-tag : goal.returns-then-byte_at-tag
 unfolding field_at unless ◌then◌
 returns-then-byte_at-tag c =
-    simp (le-leb _ _ c.if-file-at.false, ne_eqb _ _ (λ e. c.if-byte_at-tag.true (c.byte_at.ensures ∙ e)))
+    simp (le-leb _ _ c.if-file-at.false, ne_eqb _ _ (λ e. c.if-byte_at-tag.true (c.byte_at.ensures ∙ e ∙ sym c.tag-tag.ensures)))
 
 pub returns-then-length-step-ne0 : goal.returns-then-length-step-ne0
 unfolding unless ◌then◌
 returns-then-length-step-ne0 c =
-    rw (sized _ _ _ _ _ _ _ c.if-file-at.false (sym c.byte_at.ensures ∙ c.if-byte_at-tag.false) c.number_at-length.ensures.0)
-    (simp (ne_eqb _ _ c.if-length-step-ne0.true))
-
-pub returns-then-length-low : goal.returns-then-length-low
-unfolding unless ◌then◌
-returns-then-length-low c =
-    rw (sized _ _ _ _ _ _ _ c.if-file-at.false (sym c.byte_at.ensures ∙ c.if-byte_at-tag.false) c.number_at-length.ensures.0)
-    (simp (eq-eqb _ _ c.if-length-step-ne0.false, lt-leb _ _ c.if-length-low.true))
-
-pub returns-then-high-length : goal.returns-then-high-length
-unfolding unless ◌then◌
-returns-then-high-length c =
-    rw (sized _ _ _ _ _ _ _ c.if-file-at.false (sym c.byte_at.ensures ∙ c.if-byte_at-tag.false) c.number_at-length.ensures.0)
-    (simp (eq-eqb _ _ c.if-length-step-ne0.false, le-leb _ _ c.if-length-low.false, lt-leb _ _ c.if-high-length.true))
+    rw (sized _ _ _ _ _ _ _ c.if-file-at.false (sym c.byte_at.ensures ∙ c.if-byte_at-tag.false ∙ c.tag-tag.ensures) c.number_at-length.ensures.0)
+    (elim c.then-length-step-ne0.branch [
+      | then-length-step-ne0-via-then-length-step-ne0 w ↦ simp (ne_eqb _ _ w.if-length-step-ne0.true)
+      | then-length-step-ne0-via-else-length-step-ne0+then-length-low w ↦
+          simp (eq-eqb _ _ w.if-length-step-ne0.false, lt-leb _ _ w.if-length-low.true)
+      | then-length-step-ne0-via-else-length-step-ne0+else-length-low+then-high-length w ↦
+          simp (eq-eqb _ _ w.if-length-step-ne0.false, le-leb _ _ w.if-length-low.false, lt-leb _ _ w.if-high-length.true)
+    ])
 
 pub returns-then-file-at-2 : goal.returns-then-file-at-2
 unfolding unless ◌then◌
 returns-then-file-at-2 c =
-    rw (sized _ _ _ _ _ _ _ c.if-file-at.false (sym c.byte_at.ensures ∙ c.if-byte_at-tag.false) c.number_at-length.ensures.0)
+    rw (sized _ _ _ _ _ _ _ c.if-file-at.false (sym c.byte_at.ensures ∙ c.if-byte_at-tag.false ∙ c.tag-tag.ensures) c.number_at-length.ensures.0)
     (simp (eq-eqb _ _ c.if-length-step-ne0.false, le-leb _ _ c.if-length-low.false, le-leb _ _ c.if-high-length.false, lt-leb _ _ c.if-file-at-2.true))
 
 pub returns : goal.returns
 unfolding unless ◌then◌
 returns c =
-    rw (sized _ _ _ _ _ _ _ c.if-file-at.false (sym c.byte_at.ensures ∙ c.if-byte_at-tag.false) c.number_at-length.ensures.0)
+    rw (sized _ _ _ _ _ _ _ c.if-file-at.false (sym c.byte_at.ensures ∙ c.if-byte_at-tag.false ∙ c.tag-tag.ensures) c.number_at-length.ensures.0)
     (simp (eq-eqb _ _ c.if-length-step-ne0.false, le-leb _ _ c.if-length-low.false, le-leb _ _ c.if-high-length.false, le-leb _ _ c.if-file-at-2.false))

@@ -1,15 +1,14 @@
 -- The search has heard all arcs, so its answer and the mark are those of the rule's new cell.
+use Rattle.std.proofs.Common.{sym, ◌∙◌}
 use Rattle.round.proofs.CellLaws.{slices_root, slices_other}
 use Rattle.round.proofs.node.new_cell.Goals as goal
 
-pub returns-then-root-node : goal.returns-then-root-node
-returns-then-root-node c =
-    slices_root c.args.root c.args.lows.now c.args.highs.now c.args.costs.now c.args.words.now
-    c.args.dists.now c.args.parents.now c.args.marks.now c.requires c.args.node
-    _ c.pass_links-best.ensures _ c.new_mark-mark.ensures c.if-root-node.true
+pub returns-then-from-node : goal.returns-then-from-node
+returns-then-from-node c =
+    slices_root c.args.net.now _ _ _ c.requires c.args.node
+    _ c.pass_links-best.ensures _ c.new_mark-mark.ensures (sym c.from.ensures ∙ c.if-from-node.true)
 
 pub returns : goal.returns
 returns c =
-    slices_other c.args.root c.args.lows.now c.args.highs.now c.args.costs.now c.args.words.now
-    c.args.dists.now c.args.parents.now c.args.marks.now c.requires c.args.node
-    _ c.pass_links-best.ensures _ c.new_mark-mark.ensures c.if-root-node.false
+    slices_other c.args.net.now _ _ _ c.requires c.args.node
+    _ c.pass_links-best.ensures _ c.new_mark-mark.ensures (λ e. c.if-from-node.false (c.from.ensures ∙ e))

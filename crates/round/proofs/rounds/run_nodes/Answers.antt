@@ -1,12 +1,12 @@
--- A turn ends the run, or takes one round off.
-use Rattle.std.proofs.Common.{sym}
-use Rattle.round.proofs.StepLaws.{ran, goes}
+-- A turn ends the run, or takes one round off; after the last one round more tells whether the table rests.
+use Rattle.round.proofs.StepLaws.{rests, is_over, goes}
 use Rattle.round.proofs.rounds.run_nodes.Goals as goal
 
-pub returns-then-ends : goal.returns-then-ends
-returns-then-ends c =
-    record { ran = ran c.loop-root.invariant _ _ _ c.one_round.ensures.holds c.same_table-quiet.ensures (sym c.if-ends.ensures) c.answer.ensures }
+pub returns-then-is_quiet : goal.returns-then-is_quiet
+returns-then-is_quiet c = record { ran = rests c.loop-done.invariant c.is_quiet.ensures.round c.is_quiet.ensures.same c.if-is_quiet.true }
 
-pub loop-root-preserved : goal.loop-root-preserved
-loop-root-preserved c =
-    goes c.loop-root.invariant _ _ _ c.one_round.ensures.holds c.same_table-quiet.ensures (sym c.if-ends.ensures) c.copy_table.ensures
+pub loop-done-preserved : goal.loop-done-preserved
+loop-done-preserved c = goes c.loop-done.invariant c.is_quiet.ensures.round c.is_quiet.ensures.same c.if-is_quiet.false c.loop-done-test.true c.copy_table.ensures
+
+pub returns : goal.returns
+returns c = record { ran = is_over c.loop-done.invariant c.is_quiet-2.ensures.round c.is_quiet-2.ensures.same c.loop-done-test.false c.loop-done.auto.done-end }

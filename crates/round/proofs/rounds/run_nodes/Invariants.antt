@@ -2,10 +2,6 @@
 use Rattle.round.proofs.StepLaws.{Going}
 use Rattle.round.proofs.rounds.run_nodes.Given as goal
 
-abbrev pub invariant-loop-root : goal.invariant-loop-root
-invariant-loop-root l =
-    Going l.root l.lows l.highs l.costs l.words l.fn.dists l.fn.parents l.fn.marks
-    l.dists l.parents l.marks l.next_dists l.next_parents l.next_marks l.fn.count.0 l.left l.done
-
-abbrev pub decreases-loop-root : goal.decreases-loop-root
-decreases-loop-root l = l.left
+abbrev pub invariant-loop-done : goal.invariant-loop-done
+invariant-loop-done l =
+    Going l.net l.fn.dists l.fn.parents l.fn.marks l.dists l.parents l.marks l.next_dists l.next_parents l.next_marks l.count.0 l.done

@@ -1,15 +1,14 @@
--- By the mark at place k there is one less to count behind it, or as many.
-use Rattle.std.proofs.Common.{arith}
-use Rattle.summary.specs.Summary.{marked_of}
-use Rattle.summary.proofs.CountLaws.{counting_start, rest_set, rest_clear, counting_end}
+-- The marks that pass the filter are those of the marked nodes.
+use Rattle.std.proofs.Common.{◌∙◌, rules, tests}
+use Rattle.std.proofs.lemmas.Iterator.{YieldsList-from_slice}
+use Rattle.std.proofs.lemmas.Iterator.Consumers.{YieldsList-from_filter, count_from_yields_List}
+use Rattle.summary.specs.Summary.{is_marked}
+use Rattle.summary.proofs.CountLaws.{marked_filtered}
 use Rattle.summary.proofs.counts.marked.Goals as goal
 
-pub loop-k-init : goal.loop-k-init
-loop-k-init c = counting_start _ _
-
-pub loop-k-preserved : goal.loop-k-preserved
-loop-k-preserved c = grind (arith, rest_set, rest_clear)
-
 pub returns : goal.returns
-unfolding marked_of
-returns c = counting_end _ _ _ _ c.loop-k.invariant c.loop-k-test.false
+returns c =
+    let marks = c.args.marks.now in
+    count_from_yields_List c.filter.result _ c.count.ensures.ran
+    (YieldsList-from_filter _ is_marked (YieldsList-from_slice marks (cc)) c.filter.ensures.closure (λ x b q k. search (rules, tests)))
+    ∙ marked_filtered marks

@@ -1,4 +1,4 @@
-use Rattle.std.proofs.Common.{sym, ap, ◌∙◌, arith}
+use Rattle.std.proofs.Common.{sym, ap, ◌+◌, ◌*◌, ◌∙◌}
 use Rattle.std.proofs.lemmas.List.Edits.{sets}
 use Rattle.writer.proofs.MakeLaws.{numbers_turn, numbers_none}
 use Rattle.writer.proofs.made.put_numbers.Goals as goal
@@ -6,10 +6,10 @@ use Rattle.writer.proofs.made.put_numbers.Goals as goal
 pub loop-i-preserved : goal.loop-i-preserved
 loop-i-preserved c =
     let l = c.loop-i in
-    let t = numbers_turn _ l.out c.args.list.now l.at l.i c.loop-i-test.true l.invariant.1 in
-    (omega arith, rw (← c.put16.ensures) at t)
+    let t = numbers_turn _ l.out c.args.list.now l.i c.loop-i-test.true l.invariant in
+    rw (← c.put16.ensures) at t
 
 pub returns : goal.returns
 returns c =
     let l = c.loop-i in
-    ap (sets l.out l.at) (sym (numbers_none c.args.list.now l.i c.loop-i-test.false)) ∙ l.invariant.1
+    ap (sets l.out (10 + 2 * l.i)) (sym (numbers_none c.args.list.now l.i c.loop-i-test.false)) ∙ l.invariant
