@@ -30,10 +30,10 @@ same_held t ds' ps' ms' ds ps ms h n =
 
 -- the run itself: it ends where a round would change nothing, and else a round first takes one off those left
 
-pub run_rests : (N : Net) (n left done : ℕ) (t : List Cell) → quiet N n t ≡ true → run_of N n left done t ≡ record { rounds = done; quiet = true; table = t }
+pub run_stops : (N : Net) (n left done : ℕ) (t : List Cell) → quiet N n t ≡ true → run_of N n left done t ≡ record { rounds = done; quiet = true; table = t }
 unfolding run_of
-run_rests N n zero done t e = ap (λ (q : Bool). record { rounds = done; quiet = q; table = t }) e
-run_rests N n (suc left) done t e = rw (e, run_of)
+run_stops N n zero done t e = ap (λ (q : Bool). record { rounds = done; quiet = q; table = t }) e
+run_stops N n (suc left) done t e = rw (e, run_of)
 
 pub run_goes_on : (N : Net) (n left done : ℕ) (t : List Cell) → quiet N n t ≡ false → run_of N n left (suc done) (round N n t) ≡ run_of N n (suc left) done t
 unfolding run_of
@@ -79,7 +79,7 @@ module _ {net : lent.Net} {ds₀ ps₀ ms₀ ds ps ms nd np nm : List ℕ} {coun
       (ap ran_of (sym o), rw o (record { dists = sym held.dists; parents = sym held.parents; marks = sym held.marks }))
 
   pub rests : q ≡ true → (record { rounds = record { 0 = done }; quiet = true } ≡ ran_of end) × Holds end.table ds ps ms
-  rests e = ends done true (run_rests N (length ds) (count - done) done t (is_quiet ∙ e))
+  rests e = ends done true (run_stops N (length ds) (count - done) done t (is_quiet ∙ e))
 
   pub is_over : count ≤ done → done ≤ count → (record { rounds = record { 0 = count }; quiet = q } ≡ ran_of end) × Holds end.table ds ps ms
   unfolding run_of
