@@ -34,15 +34,22 @@ module _ (ds ps ms : List ℕ) where
   unfolding cells_of state_bytes
   rest_cons i a b c = rw (drop-cons ds i 0 a, drop-cons ps i 0 b, drop-cons ms i 0 c, add-one i)
 
+  pub put_turn : (whole l : List ℕ) (at i : ℕ) → i < length ds → i < length ps → i < length ms → sets l at (rest i) ≡ whole
+      → sets (sets l at (cell_bytes (get_or ds i 0) (get_or ps i 0) (get_or ms i 0))) (at + 7) (rest (i + 1)) ≡ whole
+  put_turn whole l at i a b c e =
+      let cell : List ℕ = cell_bytes (get_or ds i 0) (get_or ps i 0) (get_or ms i 0) in
+      ap (λ (k : ℕ). sets (sets l at cell) (at + k) (rest (i + 1))) (sym (length_cell (get_or ds i 0) (get_or ps i 0) (get_or ms i 0)))
+      ∙ sets_append l at cell (rest (i + 1)) ∙ ap (sets l at) (sym (rest_cons i a b c)) ∙ e
+
   -- node i + 1 is put behind those before it, in an area that leaves l' for l
-  pub put_turn : (whole l l' : List ℕ) (from i at : ℕ) → i < min (min (length ds) (length ps)) (length ms) → at ≡ min (from + 7 * i) (2 ^ 64 - 1) → length l < 2 ^ 64
+  pub put_next : (whole l l' : List ℕ) (from i at : ℕ) → i < min (min (length ds) (length ps)) (length ms) → at ≡ min (from + 7 * i) (2 ^ 64 - 1) → length l < 2 ^ 64
       → l' ≡ sets l at (cell_bytes (get_or ds i 0) (get_or ps i 0) (get_or ms i 0)) → sets l (from + 7 * i) (rest i) ≡ whole
       → sets l' (from + 7 * (i + 1)) (rest (i + 1)) ≡ whole
-  put_turn whole l l' from i at n e room f g =
+  put_next whole l l' from i at n e room f g =
       let cell : List ℕ = cell_bytes (get_or ds i 0) (get_or ps i 0) (get_or ms i 0) in
       let here : l' ≡ sets l (from + 7 * i) cell = f ∙ far_put l cell (from + 7 * i) at e room in
-      let next : from + 7 * (i + 1) ≡ from + 7 * i + length cell = rw length_cell (omega arith) in
-      rw (here, next) (sets_append l (from + 7 * i) cell (rest (i + 1)) ∙ ap (sets l (from + 7 * i)) (sym (rest_cons i (omega arith) (omega arith) (omega arith))) ∙ g)
+      let next : from + 7 * (i + 1) ≡ from + 7 * i + 7 = omega arith in
+      rw (here, next) (put_turn whole l (from + 7 * i) i (omega arith) (omega arith) (omega arith) g)
 
   rest_none : (xs ys zs : List ℕ) → cells_of xs [] zs ≡ []
   unfolding cells_of

@@ -22,7 +22,7 @@ fn put_cell(area: &mut [u8], at: usize, dist: u32, parent: u16, mark: u8)
     wire::put32(&mut record, 0, dist);
     wire::put16(&mut record, 4, parent);
     record[6] = mark;
-    wire::bytes::put_bytes(area, at, &record);
+    wire::bytes::put_array(area, at, &record);
 }
 
 // Puts a table as the records of the state from a place on, as many as its shortest slice has.
@@ -34,9 +34,13 @@ pub fn put_cells(area: &mut [u8], from: usize, table: &Table<'_>)
         parents,
         marks,
     } = *table;
+    let mut at = from;
     for i in 0..shortest(dists.len(), parents.len(), marks.len()) {
-        let at = from.saturating_add(CELL * i);
+        if area.len() <= at {
+            return;
+        }
         put_cell(area, at, dists[i], parents[i], marks[i]);
+        at += CELL;
     }
 }
 

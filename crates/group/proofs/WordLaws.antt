@@ -35,7 +35,7 @@ bits_from (suc n) x d h =
     ∙ sym (ones_step (x / 2 ^ d))
 
 -- the set bits of a word of n bits are its ones
-bits_ones : (n x : ℕ) → x < 2 ^ n → count (bit_set x) (numbered 0 n) ≡ ones x
+pub bits_ones : (n x : ℕ) → x < 2 ^ n → count (bit_set x) (numbered 0 n) ≡ ones x
 bits_ones n x h =
     let whole : x / 2 ^ 0 ≡ x = div-one x in
     bits_from n x 0 (subst (λ (y : ℕ). y < 2 ^ n) (sym whole) h) ∙ ap ones whole

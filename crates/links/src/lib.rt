@@ -25,12 +25,15 @@ pub fn other_end(low: u16, high: u16, node: usize) -> Option<u16>
     Some(if usize::from(low) == node { high } else { low })
 }
 
-// Whether `node` hears of `other` over one of the links. Ends without a counterpart are no link.
+// Whether `node` hears of `other` over one of the links. Ends without a counterpart are no link. They are cut off first, since a
+// search of two slices of one length tests at each link once, and not twice, whether it was the last.
 fn hears(lows: &[u16], highs: &[u16], node: usize, other: u16) -> bool
     ensures { result ≡ hears (arcs_of (ends_of lows.now highs.now) node) other }
 {
-    lows.iter()
-        .zip(highs)
+    let l = lows.len().min(highs.len());
+    lows[..l]
+        .iter()
+        .zip(&highs[..l])
         .any(|(&low, &high)| other_end(low, high, node) == Some(other))
 }
 

@@ -88,3 +88,13 @@ length_cells_of (d ∷ ds) (p ∷ ps) [] n a b c = absurd (omega arith)
 length_cells_of (d ∷ ds) (p ∷ ps) (m ∷ ms) zero a b c = absurd (omega arith)
 length_cells_of (d ∷ ds) (p ∷ ps) (m ∷ ms) (suc n) a b c =
     ap suc (length_cells_of ds ps ms n (omega arith) (omega arith) (omega arith))
+
+-- the numbers of a 32-bit, a 16-bit and a byte slice are cells that have a file
+pub cells_of_ok : (ds ps ms : List ℕ) → ((i : ℕ) → get_or ds i 0 < 2 ^ 32) → ((i : ℕ) → get_or ps i 0 < 2 ^ 16) → ((i : ℕ) → get_or ms i 0 < 2 ^ 8)
+    → CellsOk (cells_of ds ps ms)
+unfolding cells_of
+cells_of_ok [] ps ms a b c = tt
+cells_of_ok (d ∷ ds) [] ms a b c = tt
+cells_of_ok (d ∷ ds) (p ∷ ps) [] a b c = tt
+cells_of_ok (d ∷ ds) (p ∷ ps) (m ∷ ms) a b c =
+    (record { dist = a 0; parent = b 0; mark = c 0 }, cells_of_ok ds ps ms (λ i. a (suc i)) (λ i. b (suc i)) (λ i. c (suc i)))

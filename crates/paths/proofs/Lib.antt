@@ -1,5 +1,6 @@
 pub mod NearestLaws
 pub mod SearchLaws
+pub mod StandingLaws
 pub mod LowerLaws
 pub mod SettleLaws
 pub mod TurnLaws

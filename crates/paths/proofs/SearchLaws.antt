@@ -1,4 +1,4 @@
--- The chain that searches takes what the definition takes: of the numbers that are not settled, the first of the nearest.
+-- A chain over the numbers of nodes takes what the definition takes: of the numbers that are not settled, the first of the nearest.
 use Prim.Native.Nat.{ℕ, zero, suc, ◌+◌, ◌-◌}
 use native.Mathlib.Numerals.{add-one}
 use native.Mathlib.Omega.{arith}

@@ -11,7 +11,7 @@ ghost use Rattle.paths.specs.Offers.{lowered, offered_all, settle_nearest, settl
 use crate::nearest::nearest_node;
 use links::other_end;
 use measure::{Cost, NODES};
-use table::{Links, dist_at, shortest};
+use table::{Links, dist_at, shorter, shortest};
 
 // Offers the distance `dist` over a link of `cost` to node number `node`, which takes it where it is less. A number that is no
 // node takes none.
@@ -89,6 +89,6 @@ pub fn exact_dists(root: u16, links: &Links<'_>, dists: &mut [u32])
     ensures found { let old : List ℕ = dists.old in
         dists.new ≡ sets old 0 (dists_from (min most_nodes (length old)) root (links_in links.now)) }
 {
-    let n = NODES.min(dists.len());
+    let n = shorter(NODES, dists.len());
     find_dists(root, links, &mut dists[..n]);
 }

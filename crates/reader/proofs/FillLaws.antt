@@ -1,11 +1,12 @@
 -- Filling slices from their front, one record a turn: what stands so far are the numbers of the records so far.
-use Prim.Native.Nat.{ℕ, zero, suc, ◌+◌, ◌*◌, ◌<◌}
-use mathlib.Core.Path.{◌≡◌, refl, ap, ap₂, ◌∙◌}
+use Prim.Native.Nat.{ℕ, zero, suc, ◌+◌, ◌-◌, ◌*◌, ◌≤◌, ◌<◌}
+use mathlib.Core.Path.{◌≡◌, refl, sym, ap, ap₂, ◌∙◌}
 use mathlib.Core.List.{List, [], ◌∷◌, ◌++◌, map, map-append}
 use native.Mathlib.Numerals.{add-one}
+use native.Mathlib.Decide.{dec_lt}
 use native.Mathlib.Omega.{arith}
 use lib.ListN.{length, get_or, set, length-map}
-use lib.Seq.{sets}
+use lib.Seq.{sets, length-sets, set_out}
 use Rattle.rule.specs.Round.{Link, Cell}
 use Rattle.wire.proofs.StoreLaws.{sets_append}
 use Rattle.park.specs.Layout.{link_size, cell_size}
@@ -58,6 +59,25 @@ module _ (s : List ℕ) where
       let whole : map f (cells_read s at (i + 1)) ≡ map f (cells_read s at i) ++ (v ∷ []) =
       rw (add-one i, cells_more at i, map-append, g) in
       rw whole (more old (map f (cells_read s at i)) xs ys i v n e h)
+
+  -- behind the end of a slice no more numbers are put, so that a loop may end there
+  cell_past : (f : Cell → ℕ) (at i : ℕ) (old : List ℕ) → length old ≤ i → (d : ℕ)
+      → sets old 0 (map f (cells_read s at i)) ≡ sets old 0 (map f (cells_read s at (i + d)))
+  cell_past f at i old h zero = let e : i + 0 ≡ i = omega arith in rw e
+  cell_past f at i old h (suc d) =
+      let so_far : List ℕ = sets old 0 (map f (cells_read s at (i + d))) in
+      let v : ℕ = f (cell_in s (at + cell_size * (i + d))) in
+      let out : so_far ≡ set so_far (i + d) v = sym (set_out so_far (i + d) v (omega (arith, length-sets old 0 (map f (cells_read s at (i + d)))))) in
+      let e : i + d + 1 ≡ i + suc d = omega arith in
+      cell_past f at i old h d ∙ rw e at (cell_turn f at (i + d) v old so_far so_far refl refl out)
+
+  pub cell_rest : (f : Cell → ℕ) (at i n : ℕ) (old xs : List ℕ) → i ≤ n → (i < n → length old ≤ i) → xs ≡ sets old 0 (map f (cells_read s at i))
+      → xs ≡ sets old 0 (map f (cells_read s at n))
+  cell_rest f at i n old xs h past e = go (dec_lt i n)
+    where
+      go : Dec (i < n) → xs ≡ sets old 0 (map f (cells_read s at n))
+      go (yes l) = let whole : i + (n - i) ≡ n = omega arith in e ∙ rw whole at (cell_past f at i old (past l) (n - i))
+      go (no l) = let whole : i ≡ n = omega arith in rw whole at e
 
 -- a list with a word at each place is the column of those words
 pub column_is : (read : ℕ → ℕ) (from step n : ℕ) (xs : List ℕ) → length xs ≡ n → ((k : ℕ) → k < n → get_or xs k 0 ≡ read (from + step * k)) → xs ≡ column read from step n

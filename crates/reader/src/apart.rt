@@ -33,6 +33,7 @@ pub fn take_links(file: &[u8], links: u16, lows: &mut [u16], highs: &mut [u16], 
 }
 
 // Takes the state of so many nodes apart, behind so many links: their distances, in cost units, their parents and their marks.
+// It ends where no slice has room.
 pub fn take_state(
     file: &[u8],
     nodes: u16,
@@ -47,7 +48,8 @@ pub fn take_state(
         × (marks.new ≡ sets marks.old 0 (marks_of t)) }
 {
     let first = layout::first_cell(links);
-    for i in 0..usize::from(nodes) {
+    let room = dists.len().max(parents.len()).max(marks.len());
+    for i in 0..usize::from(nodes).min(room) {
         let cell = numbers::Cell::read(file, first + layout::CELL * i);
         put_at(dists, i, cell.dist);
         put_at(parents, i, cell.parent);

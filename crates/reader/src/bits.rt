@@ -14,7 +14,7 @@ fn values(n: usize) -> u16
 }
 
 // The contents of field 3: whether the bytes of the group have no bit above n, from the place of the first on.
-#[tactic(auto, using(crate::proofs::BitsLaws::bits_out, crate::proofs::BitsLaws::bits_on, crate::proofs::BitsLaws::bits_none))]
+#[tactic(auto, using(crate::proofs::BitsLaws::byte_out, crate::proofs::BitsLaws::byte_on, crate::proofs::BitsLaws::byte_none))]
 pub(crate) fn bits(file: &[u8], from: usize, nodes: u16) -> bool
     ensures { result ≡ bits_clear file.now from nodes group_size }
 {

@@ -1,11 +1,15 @@
 // The numbers of one record: a link's ends and cost, a node's distance, parent and mark, and a word of the group. Each record
-// is read at once. Its place is in bytes from the file's start; a byte outside the file is 0.
+// is read at once, but for the mark, which is read by itself: who takes the marks alone pays for nothing else. The place of a
+// record is in bytes from the file's start; a byte outside the file is 0.
 ghost use Rattle.std.specs.Prelude.{◌≡◌, ◌+◌, ◌*◌};
 ghost use Rattle.park.specs.Reading.{low_at, high_at, cost_at, key_at, dist_at, parent_at, mark_at};
 ghost use Rattle.reader.specs.Words.{little};
 
 use park::layout;
-use wire::bytes::bytes_at;
+use wire::bytes::{byte_at, bytes_at};
+
+// The mark's place in a node's record, behind the distance and the parent.
+const MARK: usize = 6;
 
 // A link as it is stored: its ends by their numbers, and its cost, in cost units.
 #[derive(Clone, Copy)]
@@ -56,11 +60,11 @@ impl Cell {
         ensures parent { result.parent ≡ parent_at file.now at }
         ensures mark { result.mark ≡ mark_at file.now at }
     {
-        let record: [u8; layout::CELL] = bytes_at(file, at);
+        let record: [u8; MARK] = bytes_at(file, at);
         Cell {
             dist: wire::big32(&record, 0),
             parent: wire::big16(&record, 4),
-            mark: record[6],
+            mark: byte_at(file, at.saturating_add(MARK)),
         }
     }
 }

@@ -17,7 +17,7 @@ use Rattle.round.specs.declared.keep.Best.{Best}
 use Rattle.round.specs.Hear.{hear, passed}
 use Rattle.round.specs.Keep.{unheard}
 use Rattle.round.specs.Scan.{passed_all}
-use Rattle.round.proofs.HearLaws.{passed_none, passed_some, hear_near}
+use Rattle.round.proofs.HearLaws.{no_end_passed, end_passed, hear_near}
 
 -- a search that knows b, and has the links from place j on left: it comes to what the whole search comes to
 pub record Passing (D P M : ℕ → ℕ) (i : ℕ) (b : Best) (ls : Links) (j : ℕ) : Type 0 where
@@ -42,14 +42,14 @@ module _ (D P M : ℕ → ℕ) (i : ℕ) (ls : Links) where
         }
 
     pub passing_none : j < end → far_end link.low link.high i ≡ None → {r : Best} → r ≡ b → Passing D P M i r ls (j + 1)
-    passing_none h f {r} p = next h r (p ∙ passed_none D P M i b link f) (rw p s.near)
+    passing_none h f {r} p = next h r (p ∙ no_end_passed D P M i b link f) (rw p s.near)
 
     pub passing_some : D 0 ≡ ceiling → M 0 ≡ 0 → j < end → {k x : ℕ} → far_end link.low link.high i ≡ Some k → x ≡ link.cost
         → {r : Best} → r ≡ hear D P M i b (record { from = k; cost = x }) → Passing D P M i r ls (j + 1)
     passing_some far clear h {k} f q {r} p =
         let arc : Arc = record { from = k; cost = link.cost } in
         let heard : r ≡ hear D P M i b arc = rw q at p in
-        next h r (heard ∙ passed_some D P M i b link far clear s.near k f) (rw heard (le_trans (hear_near D P M i b arc) s.near))
+        next h r (heard ∙ end_passed D P M i b link far clear s.near k f) (rw heard (le_trans (hear_near D P M i b arc) s.near))
 
     pub passing_end : end ≤ j → b ≡ passed_all D P M i unheard (links_in ls)
     unfolding passed_all

@@ -45,6 +45,7 @@ fn write_cell(
 
 // One round of all nodes together, from the stored table into the three new slices. Distances and costs are in cost units, parents are
 // node numbers; the park has as many nodes as there are distances.
+#[inline(always)]
 pub(crate) fn one_round(
     net: &Net<'_>,
     table: &Table<'_>,

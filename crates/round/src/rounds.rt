@@ -10,9 +10,11 @@ use crate::one_round;
 use crate::tables::{copy_table, same_table};
 use answers::Ran;
 use measure::{NODES, Rounds};
-use table::{Net, Table, shortest};
+use table::{Net, Table, shorter, shortest};
 
-// Makes the next round in the room lent for it, and tells whether it changes nothing.
+// Makes the next round in the room lent for it, and tells whether it changes nothing. Inlined early, so that what a run knows of its slices
+// is known in the rounds: else a round of few nodes takes twice as long.
+#[inline(always)]
 fn is_quiet(
     net: &Net<'_>,
     table: &Table<'_>,
@@ -97,7 +99,7 @@ pub fn run(
         (result ≡ ran_of end) × Fronts end.table dists.old parents.old marks.old
         dists.new parents.new marks.new }
 {
-    let n = NODES.min(shortest(dists.len(), parents.len(), marks.len()));
+    let n = shorter(NODES, shortest(dists.len(), parents.len(), marks.len()));
     let mut next_dists = [0u32; NODES];
     let mut next_parents = [0u16; NODES];
     let mut next_marks = [0u8; NODES];

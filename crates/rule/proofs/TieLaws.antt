@@ -76,6 +76,14 @@ first_is a (b ∷ xs) = go (before a b) refl (first_is a xs) (first_is b xs)
           foremost = λ d m. wins b a (first b xs) (before_total a b e) g d (Memᴰ.cases_cons m);
         }
 
+-- the chosen sender is that of any arc which is before all
+pub chosen_is : (xs : List Arc) (c : Arc) → First xs c → chosen xs ≡ c.from
+unfolding chosen
+chosen_is [] c f = absurd (Memᴰ.not-nil f.among)
+chosen_is (a ∷ xs) c f =
+    let g = first_is a xs in
+    before_both (first a xs) c (g.foremost c f.among) (f.foremost (first a xs) g.among)
+
 -- where there is an arc at all, the chosen sender is that of an arc which is before all
 pub chosen_first : (xs : List Arc) (a : Arc) → Memᴰ a xs → (c : Arc) × First xs c × (chosen xs ≡ c.from)
 unfolding chosen

@@ -9,7 +9,7 @@ use group::is_member;
 pub(crate) fn marked(marks: &[u8]) -> usize
     ensures { result ≡ marked_of marks.now }
 {
-    marks.iter().filter(|mark| **mark != 0).count()
+    marks.iter().map(|mark| usize::from(*mark != 0)).sum()
 }
 
 // The members whose stored mark is set, in nodes.
@@ -19,6 +19,6 @@ pub(crate) fn served(words: &[u64], marks: &[u8]) -> usize
     marks
         .iter()
         .enumerate()
-        .filter(|(k, mark)| is_member(words, k + 1) && **mark != 0)
-        .count()
+        .map(|(k, mark)| usize::from(*mark != 0 && is_member(words, k + 1)))
+        .sum()
 }

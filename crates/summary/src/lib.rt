@@ -34,13 +34,13 @@ fn count_all(words: &[u64], marks: &[u8]) -> Counts
     }
 }
 
-// The counts of a file that was read.
+// The counts of a file that was read. It has no more than `NODES` nodes; the minimum says so to the compiler, for the loops.
 #[tactic(auto, using(park::proofs::ParkLaws::lent))]
 fn counts_in(read: &ReadFile<'_>) -> Counts
     ensures { result ≡ counts_of (file_in read.now.file.now) }
 {
     let ReadFile { file, head } = *read;
-    let n = usize::from(head.nodes);
+    let n = usize::from(head.nodes).min(NODES);
     let mut words = [0u64; WORDS];
     let mut marks = [0u8; NODES];
     take_group(file, head.links, &mut words);

@@ -46,7 +46,7 @@ pub fn shorter(a: usize, b: usize) -> usize
 pub fn shortest(a: usize, b: usize, c: usize) -> usize
     ensures { result ≡ min a (min b c) }
 {
-    a.min(b.min(c))
+    shorter(a, shorter(b, c))
 }
 
 // What a slice holds for `node`, by its number; `none` for a number that is no node.

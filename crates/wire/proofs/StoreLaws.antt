@@ -29,6 +29,14 @@ put_then i xs e f = f ∙ ap (λ (x : List ℕ). sets x i xs) e
 pub put_both : (l : List ℕ) (i j : ℕ) (a b : List ℕ) {m n : List ℕ} → j ≡ i + length a → m ≡ sets l i a → n ≡ sets m j b → n ≡ sets l i (a ++ b)
 put_both l i j a b h e f = put_then j b e f ∙ ap (λ (k : ℕ). sets (sets l i a) k b) h ∙ sets_append l i a b
 
+-- behind the end of the list there is no room, and behind the last byte there is nothing to put
+pub sets_cut : (l vs : List ℕ) (i n : ℕ) → min (length vs) (length l - i) ≤ n → sets l (i + n) (drop n vs) ≡ l
+sets_cut l vs i n h = go (dec_lt n (length vs))
+  where
+    go : Dec (n < length vs) → sets l (i + n) (drop n vs) ≡ l
+    go (yes f) = sets_out l (i + n) (drop n vs) (omega arith)
+    go (no f) = let none : drop n vs ≡ [] = drop_of_length-le vs (omega arith) in rw none
+
 -- as many bytes as there is room for, copied into the part of the list that starts at place i
 pub part_put : (l vs part : List ℕ) (i n : ℕ) → i ≤ length l → n ≡ min (length vs) (length l - i) → part ≡ take n vs
     → take i l ++ (part ++ drop (i + n - i) (drop i l)) ≡ sets l i vs

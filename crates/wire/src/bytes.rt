@@ -40,12 +40,25 @@ pub fn put_at<T: Copy>(s: &mut [T], place: usize, x: T)
 }
 
 // Puts bytes at a place and behind it.
-#[tactic(auto, using(crate::proofs::StoreLaws::part_put, crate::proofs::StoreLaws::sets_out))]
 pub fn put_bytes(s: &mut [u8], place: usize, bytes: &[u8])
     ensures { s.new ≡ sets s.old place bytes.now }
 {
     if place < s.len() {
         let n = bytes.len().min(s.len() - place);
-        s[place..place + n].copy_from_slice(&bytes[..n]);
+        for i in 0..n {
+            s[place + i] = bytes[i];
+        }
+    }
+}
+
+// Puts the bytes of an array at a place and behind it.
+#[tactic(auto, using(crate::proofs::StoreLaws::sets_out))]
+pub fn put_array<const N: usize>(s: &mut [u8], place: usize, bytes: &[u8; N])
+    ensures { s.new ≡ sets s.old place bytes.now }
+{
+    if place < s.len() {
+        for k in 0..N {
+            put_at(s, place + k, bytes[k]);
+        }
     }
 }

@@ -8,7 +8,7 @@ ghost use Rattle.std.specs.Prelude.{◌≡◌, ◌<◌};
 ghost use Rattle.std.proofs.lemmas.List.Edits.{sets};
 ghost use Rattle.wire.specs.Big.{big, bytes_of};
 
-use bytes::{bytes_at, put_bytes};
+use bytes::{bytes_at, put_array};
 
 // The 16-bit number at a place, in bytes.
 #[tactic(auto, unfolding(crate::specs::Big::big))]
@@ -38,7 +38,7 @@ pub fn number_at(s: &[u8], place: usize) -> usize
 pub fn put16(s: &mut [u8], place: usize, x: u16)
     ensures { s.new ≡ sets s.old place (bytes_of 2 x) }
 {
-    put_bytes(s, place, &u16::to_be_bytes(x));
+    put_array(s, place, &u16::to_be_bytes(x));
 }
 
 // Puts a 32-bit number at a place, in bytes.
@@ -46,5 +46,5 @@ pub fn put16(s: &mut [u8], place: usize, x: u16)
 pub fn put32(s: &mut [u8], place: usize, x: u32)
     ensures { s.new ≡ sets s.old place (bytes_of 4 x) }
 {
-    put_bytes(s, place, &u32::to_be_bytes(x));
+    put_array(s, place, &u32::to_be_bytes(x));
 }

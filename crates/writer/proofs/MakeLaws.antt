@@ -22,17 +22,22 @@ use Rattle.table.proofs.TestLaws.{both_true}
 use Rattle.writer.specs.Made.{numbers, made, links_right, state_right, state_made, group_made, links_made, file_of}
 
 -- one number of a run, and the rest
-pub numbers_turn : (whole l xs : List ℕ) (i : ℕ) → i < length xs → sets l (10 + 2 * i) (numbers (drop i xs)) ≡ whole
-    → sets (sets l (10 + 2 * i) (bytes_of 2 (get_or xs i 0))) (10 + 2 * (i + 1)) (numbers (drop (i + 1) xs)) ≡ whole
+pub numbers_turn : (whole l xs : List ℕ) (at i : ℕ) → i < length xs → sets l at (numbers (drop i xs)) ≡ whole
+    → sets (sets l at (bytes_of 2 (get_or xs i 0))) (at + 2) (numbers (drop (i + 1) xs)) ≡ whole
 unfolding numbers
-numbers_turn whole l xs i h e =
+numbers_turn whole l xs at i h e =
     let x : ℕ = get_or xs i 0 in
-    let at : ℕ = 10 + 2 * i in
     let f : drop i xs ≡ x ∷ drop (suc i) xs = drop-cons xs i 0 h in
     let g : sets l at (bytes_of 2 x ++ numbers (drop (suc i) xs)) ≡ whole = rw f at e in
-    let next : 10 + 2 * (i + 1) ≡ at + length (bytes_of 2 x) = omega (arith, length_bytes_of 2 x) in
-    ap₂ (λ (k j : ℕ). sets (sets l at (bytes_of 2 x)) k (numbers (drop j xs))) next (add-one i)
+    ap₂ (λ (k j : ℕ). sets (sets l at (bytes_of 2 x)) (at + k) (numbers (drop j xs))) (sym (length_bytes_of 2 x)) (add-one i)
     ∙ sets_append l at (bytes_of 2 x) (numbers (drop (suc i) xs)) ∙ g
+
+-- the same of the numbers of the links, which stand from the first link on
+pub link_number_turn : (whole l xs : List ℕ) (i : ℕ) → i < length xs → sets l (10 + 2 * i) (numbers (drop i xs)) ≡ whole
+    → sets (sets l (10 + 2 * i) (bytes_of 2 (get_or xs i 0))) (10 + 2 * (i + 1)) (numbers (drop (i + 1) xs)) ≡ whole
+link_number_turn whole l xs i h e =
+    let next : 10 + 2 * (i + 1) ≡ 10 + 2 * i + 2 = omega arith in
+    rw next (numbers_turn whole l xs (10 + 2 * i) i h e)
 
 pub numbers_none : (xs : List ℕ) (i : ℕ) → length xs ≤ i → numbers (drop i xs) ≡ []
 unfolding numbers

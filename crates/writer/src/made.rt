@@ -32,7 +32,7 @@ fn put_head(out: &mut [u8], at: usize, field: Field, size: u16)
     ensures { out.new ≡ sets out.old at (tag_of field ∷ bytes_of 2 size) }
 {
     let [high, low] = size.to_be_bytes();
-    wire::bytes::put_bytes(out, at, &[field.tag(), high, low]);
+    wire::bytes::put_array(out, at, &[field.tag(), high, low]);
 }
 
 // The numbers of a park: n and the root, the links (three numbers a link), the bytes of the group, and for each node its
@@ -52,11 +52,10 @@ impl Numbers<'_> {
         ensures { let triples : List ℕ = self.now.links.now in
             SomeIff result (IsTrue (links_right triples)) (length triples / 3) }
     {
-        let count = self.links.len() / 3;
-        if self.links.len() % 3 != 0 || LINKS < count {
+        if self.links.len() % 3 != 0 || 3 * LINKS < self.links.len() {
             return None;
         }
-        Some(count as u16)
+        Some((self.links.len() / 3) as u16)
     }
 
     // The length of the state's field, in bytes; none where distances, parents and marks are not n each, or n is more

@@ -10,9 +10,9 @@ use Rattle.paths.proofs.offers.exact_dists.Goals as goal
 
 pub returns : goal.returns
 returns c =
-    let n : ℕ = c.min-n.result in
-    let room : n ≤ length c.args.dists.now = omega (arith, c.min-n.ensures) in
-    let few : length (take n c.args.dists.now) ≡ min most_nodes (length c.args.dists.now) = sym (part _ c.args.dists.now room) ∙ c.min-n.ensures in
+    let n : ℕ = c.shorter-n.result in
+    let room : n ≤ length c.args.dists.now = omega (arith, c.shorter-n.ensures) in
+    let few : length (take n c.args.dists.now) ≡ min most_nodes (length c.args.dists.now) = sym (part _ c.args.dists.now room) ∙ c.shorter-n.ensures in
     let long : length c.find_dists.new.dists ≡ length (take n c.args.dists.now) = search rules in
     record {
       found =

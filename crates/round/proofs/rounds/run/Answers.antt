@@ -6,5 +6,5 @@ use Rattle.round.proofs.rounds.run.Goals as goal
 pub returns : goal.returns
 returns c =
     record {
-      ran = run_fronts _ c.args.net.now _ _ _ _ (c.min-n.ensures ∙ ap (λ (k : ℕ). min 256 k) c.shortest.ensures) _ _ _ _ c.run_nodes.ensures.ran;
+      ran = run_fronts _ c.args.net.now _ _ _ _ (c.shorter-n.ensures ∙ ap (λ (k : ℕ). min 256 k) c.shortest.ensures) _ _ _ _ c.run_nodes.ensures.ran;
     }
