@@ -44,7 +44,7 @@ fn write_cell(
 }
 
 // One round of all nodes together, from the stored table into the three new slices. Distances and costs are in cost units, parents are
-// node numbers; the park has as many nodes as there are distances.
+// node numbers; the park has as many nodes as there are distances. Inlined for the reason told at `is_quiet`.
 #[inline(always)]
 pub(crate) fn one_round(
     net: &Net<'_>,

@@ -5,7 +5,7 @@ ghost use Rattle.table.specs.Same.{same_slices};
 
 use table::Table;
 
-// Whether two tables are the same: every distance, every parent and every mark.
+// Whether two tables are the same: every distance, every parent and every mark. Inlined for the reason told at `is_quiet`.
 #[tactic(auto, using(table::proofs::SameLaws::numbers_are))]
 #[inline(always)]
 pub(crate) fn same_table(first: &Table<'_>, second: &Table<'_>) -> bool
